@@ -1,0 +1,7 @@
+pub mod Again
+pub mod Wholes
+pub mod TextsAreUtf8
+pub mod Spelled
+pub mod Texts
+pub mod Values
+pub mod Views

@@ -1,0 +1,11 @@
+pub mod Back
+pub mod Codes
+pub mod Falls
+pub mod Fields
+pub mod Laws
+pub mod Profile
+pub mod Reading
+pub mod Sent
+pub mod Value
+pub mod View
+pub mod Weights

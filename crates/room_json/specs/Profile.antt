@@ -1,0 +1,25 @@
+-- The values that a `Json` can stand for.
+use Rattle.std.specs.Prelude.{◌≤ℤ◌, pos, negsuc, ⊤, IsUtf8}
+use Rattle.std.specs.Cmp.Lexicographic.{slice_cmp}
+use Rattle.std.specs.List.Sorted.{IsStrictlySortedBy}
+use Rattle.std.specs.Map.{keys_of}
+use Rattle.std.specs.Ordering.{nat_cmp}
+use Rattle.room_json.specs.Value.{Value, nothing, flag, whole, text, list, members, Values, no_values, value, Fields, no_fields, field, fields_list}
+
+-- whole numbers in their range, texts in UTF-8, distinct names in byte order
+abbrev mutual
+  pub IsJson : Value → Type 0
+  IsJson nothing = ⊤
+  IsJson (flag b) = ⊤
+  IsJson (whole z) = (negsuc 9007199254740990 ≤ℤ z) × (z ≤ℤ pos 9007199254740991)
+  IsJson (text s) = IsUtf8 s
+  IsJson (list vs) = AreJson vs
+  IsJson (members fs) = IsStrictlySortedBy (slice_cmp nat_cmp) (keys_of (fields_list fs)) × HaveJson fs
+
+  pub AreJson : Values → Type 0
+  AreJson no_values = ⊤
+  AreJson (value v vs) = IsJson v × AreJson vs
+
+  pub HaveJson : Fields → Type 0
+  HaveJson no_fields = ⊤
+  HaveJson (field k v fs) = IsUtf8 k × IsJson v × HaveJson fs

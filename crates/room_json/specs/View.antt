@@ -1,0 +1,18 @@
+-- The value that a `Json` stands for.
+use Rattle.std.specs.Prelude.{ℕ, List, [], ◌∷◌}
+use Rattle.room_json.specs.Value.{Value, nothing, flag, whole, text, list, members, values_of, fields_of}
+use Rattle.room_json.specs.declared.tree.Json.{Json}
+use Rattle.room_json.specs.declared.tree.Json.TheVariants.{Null, Flag, Int, Text, List as Listed, Object}
+
+abbrev pub json_of : Json → Value
+json_of Null = nothing
+json_of (Flag b) = flag b
+json_of (Int z) = whole z
+json_of (Text s) = text s
+json_of (Listed vs) = list (values_of vs)
+json_of (Object fs) = members (fields_of fs)
+
+-- the members of some entries
+abbrev pub members_view : List (List ℕ × Json) → List (List ℕ × Value)
+members_view [] = []
+members_view (e ∷ es) = (e.0, json_of e.1) ∷ members_view es
