@@ -1,0 +1,4 @@
+pub mod IdOrder
+pub mod Makings
+pub mod Orders
+pub mod Spelled

@@ -1,0 +1,5 @@
+pub mod Ids
+pub mod Laws
+pub mod Order
+pub mod Position
+pub mod Stamp

@@ -1,0 +1,73 @@
+ghost use Rattle.std.specs.Prelude.{◌≡◌, ◌≤◌, ◌++◌, OnOk, IfSome};
+ghost use Rattle.std.specs.Fmt.{decimal};
+ghost use Rattle.room_ids.specs.Ids.{is_number, number_in};
+
+use room_json::{NoMemory, Text};
+use std::alloc::Global;
+
+/// Digits, of which the first is no zero unless it stands alone.
+fn is_numeral(t: &[u8]) -> bool
+    ensures { result ≡ is_number t.now }
+{
+    match t {
+        [] => false,
+        [first, behind @ ..] => are_digits(t) && !(*first == b'0' && !behind.is_empty()),
+    }
+}
+
+ghost use Rattle.std.specs.Str.{all_ascii_digits};
+
+fn are_digits(t: &[u8]) -> bool
+    ensures { result ≡ all_ascii_digits t.now }
+{
+    for c in t {
+        if !c.is_ascii_digit() {
+            return false;
+        }
+    }
+    true
+}
+
+/// The number that decimal digits without a leading zero write, unless it is over `most`.
+#[tactic(auto, unfolding(crate::specs::Ids::number_in))]
+pub fn read_number(t: &[u8], most: u64) -> Option<u64>
+    requires { most ≤ 9007199254740991 }
+    ensures value { result ≡ number_in most t.now }
+    ensures bound { IfSome result (λ n. n ≤ most) }
+{
+    if is_numeral(t) {
+        value_up_to(t, most)
+    } else {
+        None
+    }
+}
+
+ghost use Rattle.std.specs.Prelude.{true, if◌then◌else◌, nat_le, Some, None};
+ghost use Rattle.std.specs.Str.Parse.{digits_value};
+
+/// The number that digits write, unless it is over `most`.
+fn value_up_to(t: &[u8], most: u64) -> Option<u64>
+    requires digits { all_ascii_digits t.now ≡ true }
+    requires small { most ≤ 9007199254740991 }
+    ensures bound { IfSome result (λ n. n ≤ most) }
+    ensures value { result ≡ (if nat_le (digits_value 10 t.now) most then Some (digits_value 10 t.now) else None) }
+{
+    let mut value: u64 = 0;
+    for c in t {
+        value = value * 10 + u64::from(c.saturating_sub(b'0'));
+        if value > most {
+            return None;
+        }
+    }
+    Some(value)
+}
+
+/// Writes a number in decimal digits behind a text.
+pub fn push_number(alloc: Global, text: &mut Text, number: u64) -> Result<(), NoMemory>
+    ensures { OnOk result (text.new ≡ text.old ++ decimal number) }
+{
+    match number.to_string(alloc) {
+        Ok(digits) => text.push_str(digits.as_str()),
+        Err(_) => Err(NoMemory),
+    }
+}
