@@ -1,0 +1,15 @@
+pub mod Again
+pub mod Below
+pub mod Children
+pub mod Cutting
+pub mod EmptyTree
+pub mod Fitting
+pub mod Formed
+pub mod Gets
+pub mod Listing
+pub mod Places
+pub mod Putting
+pub mod Settling
+pub mod StepForm
+pub mod Steps
+pub mod Undoing
