@@ -1,0 +1,4 @@
+pub mod Copying
+pub mod Nearest
+pub mod Settlement
+pub mod Skipped
