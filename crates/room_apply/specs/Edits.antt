@@ -1,0 +1,53 @@
+-- Changes of a tree that can be taken back, and made again.
+use Rattle.std.specs.Prelude.{◌≡◌, ◌+◌, ◌-◌, ◌<◌, ℕ, List, [], ◌∷◌, ◌++◌}
+use Rattle.room_nodes.specs.Shape.{Nodes}
+use Rattle.room_nodes.specs.Turns.{turned, reverse, CanTurn}
+use Rattle.room_nodes.specs.declared.turns.Turn.{Turn}
+use Rattle.room_nodes.specs.declared.turns.Turn.TheVariants.{Put, Take, Fields, Key}
+
+-- a list of them, the last first
+
+abbrev pub turned_all : Nodes → List Turn → Nodes
+turned_all t [] = t
+turned_all t (c ∷ cs) = turned (turned_all t cs) c
+
+abbrev pub CanTurnAll : Nodes → List Turn → Type 0
+CanTurnAll t [] = Unit {0}
+CanTurnAll t (c ∷ cs) = CanTurn (turned_all t cs) c × CanTurnAll t cs
+
+abbrev pub reverse_all : Nodes → List Turn → List Turn
+reverse_all t [] = []
+reverse_all t (c ∷ cs) = reverse_all t cs ++ reverse (turned_all t cs) c ∷ []
+
+-- the spare places on the way
+
+abbrev pub places : ℕ → Turn → ℕ
+places s (Put x n) = s - 1
+places s (Take x) = s + 1
+places s (Fields x fs) = s
+places s (Key x k) = s
+
+abbrev pub HasPlace : ℕ → Turn → Type 0
+HasPlace s (Put x n) = 0 < s
+HasPlace s (Take x) = Unit {0}
+HasPlace s (Fields x fs) = Unit {0}
+HasPlace s (Key x k) = Unit {0}
+
+abbrev pub places_all : ℕ → List Turn → ℕ
+places_all s [] = s
+places_all s (c ∷ cs) = places (places_all s cs) c
+
+abbrev pub HasPlaces : ℕ → List Turn → Type 0
+HasPlaces s [] = Unit {0}
+HasPlaces s (c ∷ cs) = HasPlace (places_all s cs) c × HasPlaces s cs
+
+-- the changes lead from a tree u with b places back to s with a places
+pub record IsUndo (s : Nodes) (a : ℕ) (u : Nodes) (b : ℕ) (cs : List Turn) : Type 0 where
+  pub can : CanTurnAll u cs
+  pub back : turned_all u cs ≡ s
+  pub place : HasPlaces b cs
+  pub places : places_all b cs ≡ a
+
+-- whatever the changes cs lead back to, the changes ds lead back to it too
+abbrev pub KeepsUndo : Nodes → ℕ → List Turn → Nodes → ℕ → List Turn → Type 0
+KeepsUndo u b cs v d ds = (s : Nodes) (a : ℕ) → IsUndo s a u b cs → IsUndo s a v d ds

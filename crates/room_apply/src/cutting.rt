@@ -1,0 +1,45 @@
+ghost use Rattle.std.specs.Prelude.{◌≡◌, ◌≢◌, ◌≤◌, ℕ, OnOk, is_some, true};
+ghost use Rattle.std.specs.FinMap.{get};
+ghost use Rattle.room_nodes.specs.Shape.{Nodes, removed, up};
+ghost use Rattle.room_apply.specs.Edits.{KeepsUndo};
+ghost use Rattle.room_ids.specs.declared.ids.NodeId.TheVariants.{Root as TheRoot};
+
+use crate::turning::change;
+use room_ids::{NodeId, same_id};
+use room_json::NoMemory;
+use room_nodes::Turn;
+use room_tree::Tree;
+
+fn parent_at<T: Tree>(t: &T, id: &NodeId) -> NodeId
+    requires { is_some (get (T.nodes t.now) id.now) ≡ true }
+    ensures { result ≡ up (T.nodes t.now) id.now }
+{
+    match t.node(id) {
+        Some(node) => node.parent,
+        None => unreachable!(),
+    }
+}
+
+/// Takes a node out with all that lies below it.
+pub(crate) fn cut<T: Tree>(t: &mut T, x: &NodeId, done: &mut Vec<Turn>) -> Result<(), NoMemory>
+    requires there { is_some (get (T.nodes t.old) x.now) ≡ true }
+    requires made { x.now ≢ TheRoot }
+    ensures ok { OnOk result (T.nodes t.new ≡ removed (T.nodes t.old) x.now) }
+    ensures undo { KeepsUndo (T.nodes t.old) (T.spare t.old) done.old.items (T.nodes t.new) (T.spare t.new) done.new.items }
+    ensures spare { T.spare t.old ≤ T.spare t.new }
+{
+    let mut at = *x;
+    loop {
+        match t.next_child(&at, None) {
+            Some(child) => at = child,
+            None => {
+                let parent = parent_at(t, &at);
+                change(t, Turn::Take(at), done)?;
+                if same_id(&at, x) {
+                    return Ok(());
+                }
+                at = parent;
+            }
+        }
+    }
+}
