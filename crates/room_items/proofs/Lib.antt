@@ -1,0 +1,10 @@
+pub mod Childs
+pub mod NodesAgain
+pub mod Levels
+pub mod Merging
+pub mod Rooted
+pub mod MayPut
+pub mod Shown
+pub mod Spells
+pub mod Tours
+pub mod Walks

@@ -1,0 +1,21 @@
+//! A tree as items, and as the JSON that is shown of it.
+#![tactic(auto)]
+
+#[cfg(test)]
+mod counted;
+mod item;
+mod kids;
+mod laws;
+mod order;
+mod putting;
+mod reading;
+mod shape;
+mod showing;
+#[cfg(test)]
+mod tests;
+mod writing;
+
+pub use laws::{items_read_back, trees_read_back};
+pub use reading::read_items;
+pub use showing::{view, view_of};
+pub use writing::write_items;

@@ -1,0 +1,106 @@
+//! The tree that items spell.
+ghost use Rattle.std.specs.Prelude.{◌≡◌, ◌∷◌, Some, None, IfOk, map, option_map, if◌then◌else◌};
+ghost use Rattle.room_json.specs.View.{json_of};
+ghost use Rattle.room_ids.specs.declared.ids.NodeId.TheVariants.{Root};
+ghost use Rattle.room_nodes.specs.Shape.{empty_tree};
+ghost use Rattle.room_nodes.specs.declared.nodes.Kind.TheVariants.{Object};
+ghost use Rattle.room_items.specs.Items.{rows_in, row_id, same_ids, tree_under, tree_in};
+ghost use Rattle.room_items.specs.Preorder.{preorder};
+ghost use Rattle.room_items.specs.Rows.{row_of};
+
+use crate::item::Item;
+use crate::order::{order, same_list};
+use crate::putting::put_rows;
+use crate::shape::{read_item, read_root};
+use room_ids::NodeId;
+use room_json::{Items, Json, Members, NoMemory, Seq};
+use room_nodes::Kind;
+use room_tree::Tree;
+use std::alloc::Global;
+
+fn read_rows(alloc: Global, items: &[Json]) -> Result<Option<Seq<Item>>, NoMemory>
+    ensures { IfOk result (λ rs. option_map (map row_of) rs ≡ rows_in (map json_of items.now)) }
+{
+    let mut rows = Seq::new(alloc);
+    for v in items {
+        match read_item(alloc, v)? {
+            Some(row) => rows.push(row)?,
+            None => return Ok(None),
+        }
+    }
+    Ok(Some(rows))
+}
+
+fn ids_of(alloc: Global, rows: &[Item]) -> Result<Seq<NodeId>, NoMemory>
+    ensures { IfOk result (λ s. s ≡ Root ∷ map row_id (map row_of rows.now)) }
+{
+    let mut ids = Seq::new(alloc);
+    ids.push(NodeId::Root)?;
+    for row in rows {
+        ids.push(row.id)?;
+    }
+    Ok(ids)
+}
+
+fn in_order<T: Tree>(alloc: Global, t: T, ids: &[NodeId]) -> Result<Option<T>, NoMemory>
+    ensures { IfOk result (λ r. option_map (λ u. T.nodes u) r ≡ (if same_ids (preorder (T.nodes t) Root) ids.now then Some (T.nodes t) else None)) }
+{
+    let found = order(alloc, &t)?;
+    if same_list(found.as_slice(), ids) {
+        Ok(Some(t))
+    } else {
+        Ok(None)
+    }
+}
+
+fn tree_under<T: Tree>(
+    alloc: Global,
+    into: T,
+    fields: Members,
+    rows: Seq<Item>,
+) -> Result<Option<T>, NoMemory>
+    requires { T.nodes into ≡ empty_tree }
+    ensures { IfOk result (λ r. option_map (λ u. T.nodes u) r ≡ tree_under (Object fields) (map row_of rows)) }
+{
+    let mut into = into;
+    let ids = ids_of(alloc, rows.as_slice())?;
+    into.reserve(rows.len())?;
+    drop(into.swap_fields(&NodeId::Root, fields));
+    match put_rows(into, rows) {
+        Some(t) => in_order(alloc, t, ids.as_slice()),
+        None => Ok(None),
+    }
+}
+
+#[tactic(auto, using(crate::proofs::Rooted::none_under))]
+fn read_from<T: Tree>(
+    alloc: Global,
+    into: T,
+    first: &Json,
+    rest: &[Json],
+) -> Result<Option<T>, NoMemory>
+    requires { T.nodes into ≡ empty_tree }
+    ensures { IfOk result (λ r. option_map (λ u. T.nodes u) r ≡ tree_in (json_of first.now ∷ map json_of rest.now)) }
+{
+    let Some(kind) = read_root(alloc, first)? else {
+        return Ok(None);
+    };
+    let Kind::Object(fields) = kind else {
+        return Ok(None);
+    };
+    let Some(rows) = read_rows(alloc, rest)? else {
+        return Ok(None);
+    };
+    tree_under(alloc, into, fields, rows)
+}
+
+/// The tree that items spell, over a tree of the root alone; None where they are no well-formed tree in its own order.
+pub fn read_items<T: Tree>(alloc: Global, into: T, v: &Items) -> Result<Option<T>, NoMemory>
+    requires { T.nodes into ≡ empty_tree }
+    ensures { IfOk result (λ r. option_map (λ u. T.nodes u) r ≡ tree_in v.now) }
+{
+    match v.as_slice() {
+        [first, rest @ ..] => read_from(alloc, into, first, rest),
+        [] => Ok(None),
+    }
+}
