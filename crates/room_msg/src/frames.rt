@@ -1,0 +1,62 @@
+ghost use Rattle.std.specs.Prelude.{◌≡◌, IfOk, IfErr, Ok};
+ghost use Rattle.room_json.specs.View.{json_of};
+ghost use Rattle.room_msg.specs.Frame.{frame_value_in, client_msgs_in, client_frame_in, server_frame_in};
+ghost use Rattle.room_msg.specs.Msg.{IsFaultOf};
+
+use crate::messages::{ClientFrame, ServerFrame};
+use crate::reading::read_msgs;
+use crate::reason::{MsgFault, Reason};
+use crate::receiving::read_server_msgs;
+use room_json::{Json, JsonFault, Text, read};
+use std::alloc::Global;
+
+fn read_text(alloc: Global, text: &Text) -> Result<Json, MsgFault>
+    ensures ok { IfOk result (λ v. frame_value_in text.now ≡ Ok (json_of v)) }
+    ensures err { IfErr result (IsFaultOf (frame_value_in text.now)) }
+{
+    match read(alloc, text.as_bytes()) {
+        Ok(json) => Ok(json),
+        Err(JsonFault::Memory) => Err(MsgFault::Memory),
+        Err(JsonFault::NotJson) => Err(MsgFault::Bad(Reason::Json)),
+        Err(JsonFault::TooDeep(_)) => Err(MsgFault::Bad(Reason::Depth)),
+        Err(JsonFault::BadNumber) => Err(MsgFault::Bad(Reason::Number)),
+    }
+}
+
+fn read_list(alloc: Global, v: &Json) -> Result<ClientFrame, MsgFault>
+    ensures ok { IfOk result (λ f. client_msgs_in (json_of v.now) ≡ Ok f) }
+    ensures err { IfErr result (IsFaultOf (client_msgs_in (json_of v.now))) }
+{
+    match v.as_list() {
+        Some(items) => Ok(ClientFrame::Msgs(read_msgs(alloc, items.as_slice())?)),
+        None => Err(MsgFault::Bad(Reason::List)),
+    }
+}
+
+/// What a client's frame holds, or the first reason why it is refused.
+pub fn read_client(alloc: Global, text: &Text) -> Result<ClientFrame, MsgFault>
+    ensures ok { IfOk result (λ f. client_frame_in text.now ≡ Ok f) }
+    ensures err { IfErr result (IsFaultOf (client_frame_in text.now)) }
+{
+    if text.len() > 1048576 {
+        return Err(MsgFault::Bad(Reason::Size));
+    }
+    if text.as_str() == "ping" {
+        return Ok(ClientFrame::Ping);
+    }
+    let value = read_text(alloc, text)?;
+    read_list(alloc, &value)
+}
+
+/// What a server's frame holds, or the first reason why it is refused.
+pub fn read_server(alloc: Global, text: &Text) -> Result<ServerFrame, MsgFault>
+    ensures ok { IfOk result (λ f. server_frame_in text.now ≡ Ok f) }
+    ensures err { IfErr result (IsFaultOf (server_frame_in text.now)) }
+{
+    if text.as_str() == "pong" {
+        return Ok(ServerFrame::Pong);
+    }
+    let value = read_text(alloc, text)?;
+    let msgs = read_server_msgs(alloc, &value)?;
+    Ok(ServerFrame::Msgs(msgs))
+}

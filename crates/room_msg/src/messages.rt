@@ -1,0 +1,85 @@
+use crate::users::Users;
+use room_json::{Items, Json, Members, Seq, Text};
+use room_nodes::Ops;
+
+/// A session that goes on: its actor, from 1, and its key.
+#[derive(Clone, Copy, Debug, PartialEq, Eq)]
+pub struct Resume {
+    pub actor: u32,
+    pub key: u64,
+}
+
+/// The first message of a connection.
+#[derive(Drop)]
+pub struct Hello {
+    pub room: Text,
+    pub resume: Option<Resume>,
+    /// At most 64 bytes. Ignored where a session goes on.
+    pub name: Option<Text>,
+    /// A word that access is given by.
+    pub pass: Option<Text>,
+}
+
+/// A message of a client.
+#[derive(Drop)]
+pub enum ClientMsg {
+    Hello(Hello),
+    /// A patch to all others without a target, a full presence to all others at -1, and else to one actor.
+    Presence { target: Option<i64>, patch: Members },
+    Broadcast(Json),
+    Fetch,
+    Update(Ops),
+}
+
+/// A message of the server.
+#[derive(Drop)]
+pub enum ServerMsg {
+    Presence {
+        actor: u32,
+        target: Option<i64>,
+        patch: Members,
+    },
+    Joined(u32),
+    Left(u32),
+    Broadcast {
+        actor: u32,
+        event: Json,
+    },
+    /// The own actor and key, and the others.
+    RoomState {
+        actor: u32,
+        key: u64,
+        users: Users,
+    },
+    /// A part of a state; `more` in every part but the last.
+    State {
+        seq: u64,
+        last: u64,
+        items: Items,
+        more: bool,
+    },
+    Update {
+        seq: u64,
+        ops: Ops,
+    },
+}
+
+/// Messages of a client.
+pub type ClientMsgs = Seq<ClientMsg>;
+
+/// Messages of the server.
+pub type ServerMsgs = Seq<ServerMsg>;
+
+/// What a client sends at once.
+#[derive(Drop)]
+pub enum ClientFrame {
+    Ping,
+    Msgs(ClientMsgs),
+}
+
+/// What the server sends at once.
+#[derive(Drop)]
+pub enum ServerFrame {
+    Pong,
+    Msgs(ServerMsgs),
+}
