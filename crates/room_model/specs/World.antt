@@ -1,0 +1,544 @@
+-- The world: a server, clients, and a queue up and down for each connection; and what each line of a schedule does.
+use Rattle.std.specs.Prelude.{ℕ, zero, suc, ◌+◌, ◌-◌, Bool, true, false, ◌&&◌, if◌then◌else◌, nat_le, is_some, List, [], ◌∷◌, ◌++◌, map, codes, Option, Some, None, Result, Ok, Err}
+use Rattle.std.specs.Ordering.{nat_cmp}
+use Rattle.std.specs.FinMap.{FinMap, get, insert, entries, from_entries, empty}
+use Rattle.room_json.specs.declared.tree.Json.{Json}
+use Rattle.room_msg.specs.declared.messages.ClientMsg.{ClientMsg}
+use Rattle.room_msg.specs.declared.messages.ClientFrame.TheVariants.{Msgs as ClientMsgsOf}
+use Rattle.room_msg.specs.declared.messages.ServerFrame.TheVariants.{Pong as PongOf, Msgs as ServerMsgsOf}
+use Rattle.room_msg.specs.Written.{server_text}
+use Rattle.room_msg.specs.Frame.{client_frame_in}
+use Rattle.room_model.specs.Log.{State, Entry, after}
+use Rattle.room_model.specs.Edits.{EditFault}
+use Rattle.room_model.specs.Notices.{Notice}
+use Rattle.room_model.specs.Account.{Account, Batch, new_account, is_some_list}
+use Rattle.room_model.specs.Calls.{Done, Undo as Back, Redo as Forth, BatchFault, UndoFault, SayFault, lost, dialled, hello_of, edit, batch_begin, batch_end, go_back, pause, resume, clear, presence, event, flush_frames, flushed, resend_frames, resent}
+use Rattle.room_model.specs.Comes.{Took, Refusal, frame_comes}
+use Rattle.room_model.specs.Server.{Down, Pong, Message, Closed, Up, Limits, Server, Served, Link, opened, gone, serve}
+use Rattle.room_model.specs.Lines
+
+-- what is there
+
+-- a connection: the client that dialled it, if one did, its queues, and whether what the server sends still enters the
+-- queue down
+pub record Conn : Type 0 where
+  pub owner : Option ℕ
+  pub up : List Up
+  pub down : List Down
+  pub listens : Bool
+
+-- a client, its present connection, and the last notices that it was told
+pub record Seat : Type 0 where
+  pub account : Account
+  pub present : Option ℕ
+  pub noticed : List Notice
+
+-- the server runs, or is stopped, and then its files stand for a state
+pub data Host : Type 0 where
+  Running : Server → Host
+  Stopped : State → Host
+
+-- the server stops at its call of the disk of that number from now on
+pub record Fuse : Type 0 where
+  pub left : ℕ
+  pub how : Lines.How
+
+pub record World : Type 0 where
+  pub host : Host
+  pub limits : Limits
+  pub fuse : Option Fuse
+  pub clients : FinMap nat_cmp Seat
+  pub conns : FinMap nat_cmp Conn
+  pub opened : ℕ  -- how many connections were opened
+
+abbrev pub room : List ℕ
+room = codes "room"
+
+abbrev pub state_in : Host → State
+state_in (Running v) = v.state
+state_in (Stopped s) = s
+
+-- a step's outcome: the world, report lines, the entries of the log, the batches that clients issued, and the actors
+-- that connections were given, each with the client that dialled the connection
+pub record Stepped : Type 0 where
+  pub world : World
+  pub lines : List (List ℕ)
+  pub entries : List Entry
+  pub issues : List (ℕ × Batch)
+  pub given : List (ℕ × Option ℕ)
+
+abbrev pub quiet : World → Stepped
+quiet w = record { world = w; lines = []; entries = []; issues = []; given = [] }
+
+abbrev pub saying : World → List (List ℕ) → Stepped
+saying w ls = record (quiet w) { lines = ls }
+
+-- clients
+
+abbrev pub new_seat : Seat
+new_seat = record { account = new_account room; present = None; noticed = [] }
+
+-- a client is there from its first line on
+
+abbrev pub seated_at : World → ℕ → Option Seat → World
+seated_at w c None = record w { clients = insert w.clients c new_seat }
+seated_at w c (Some p) = w
+
+abbrev pub seated : World → ℕ → World
+seated w c = seated_at w c (get w.clients c)
+
+abbrev pub with_seat : World → ℕ → Seat → World
+with_seat w c p = record w { clients = insert w.clients c p }
+
+abbrev pub with_account : Seat → Account → Seat
+with_account p x = record p { account = x }
+
+-- queues
+
+abbrev pub links_of : Host → FinMap nat_cmp Link
+links_of (Running v) = v.links
+links_of (Stopped s) = empty
+
+abbrev pub is_attached : World → ℕ → Bool
+is_attached w k = is_some (get (links_of w.host) k)
+
+abbrev pub with_conn : World → ℕ → Conn → World
+with_conn w k q = record w { conns = insert w.conns k q }
+
+abbrev pub frame_up : List ClientMsg → Up
+frame_up ms = Ok (ClientMsgsOf ms)
+
+-- frames go up where the server has the connection, and are dropped elsewhere
+
+abbrev pub ups_on : World → ℕ → List Up → Bool → Option Conn → World
+ups_on w k us true (Some q) = with_conn w k (record q { up = q.up ++ us })
+ups_on w k us true None = w
+ups_on w k us false q = w
+
+abbrev pub send_up : World → ℕ → List Up → World
+send_up w k us = ups_on w k us (is_attached w k) (get w.conns k)
+
+abbrev pub send_present : World → Option ℕ → List (List ClientMsg) → World
+send_present w None frames = w
+send_present w (Some k) frames = send_up w k (map frame_up frames)
+
+-- what the server sends goes down where the connection listens; a close empties the queue up
+
+abbrev pub is_close : Down → Bool
+is_close Pong = false
+is_close (Message m) = false
+is_close (Closed code text) = true
+
+abbrev pub with_down : Conn → Down → Conn
+with_down q m = record {
+  owner = q.owner;
+  up = (if is_close m then [] else q.up);
+  down = (if q.listens then q.down ++ m ∷ [] else q.down);
+  listens = q.listens;
+}
+
+abbrev pub give : FinMap nat_cmp Conn → ℕ → Down → Option Conn → FinMap nat_cmp Conn
+give qs k m None = qs
+give qs k m (Some q) = insert qs k (with_down q m)
+
+abbrev pub deliver : FinMap nat_cmp Conn → List (ℕ × Down) → FinMap nat_cmp Conn
+deliver qs [] = qs
+deliver qs (o ∷ os) = deliver (give qs o.0 o.1 (get qs o.0)) os
+
+-- the client notices a loss: the queue down is emptied, and nothing more enters it; the queue up stays
+
+abbrev pub cut_conn : FinMap nat_cmp Conn → ℕ → Option Conn → FinMap nat_cmp Conn
+cut_conn qs k None = qs
+cut_conn qs k (Some q) = insert qs k (record q { down = []; listens = false })
+
+abbrev pub cut_present : World → Option ℕ → World
+cut_present w None = w
+cut_present w (Some k) = record w { conns = cut_conn w.conns k (get w.conns k) }
+
+abbrev pub cut_seat : World → ℕ → Seat → World
+cut_seat w c p = with_seat (cut_present w p.present) c (record { account = lost p.account; present = None; noticed = p.noticed })
+
+-- connections
+
+abbrev pub new_conn : Option ℕ → Conn
+new_conn owner = record { owner = owner; up = []; down = []; listens = true }
+
+-- the key of a connection is its number
+abbrev pub opened_host : Host → ℕ → Host
+opened_host (Running v) k = Running (opened v k k)
+opened_host (Stopped s) k = Stopped s
+
+abbrev pub open_conn : World → Option ℕ → World
+open_conn w owner = record w {
+  host = opened_host w.host (w.opened + 1);
+  conns = insert w.conns (w.opened + 1) (new_conn owner);
+  opened = w.opened + 1;
+}
+
+-- a dial drops the old connection first; the hello goes up on the new one
+abbrev pub dial_seat : World → ℕ → Seat → World
+dial_seat w c p =
+    let k = w.opened + 1 in
+    let x = dialled p.account in
+    send_up (with_seat (open_conn (cut_present w p.present) (Some c)) c (record { account = x; present = Some k; noticed = p.noticed }))
+    k (frame_up (hello_of x) ∷ [])
+
+-- the server's disk calls, and its stops
+
+abbrev pub emptied_conn : ℕ × Conn → ℕ × Conn
+emptied_conn e = (e.0, record (e.1) { up = []; down = [] })
+
+-- queues and attachments are emptied; the disk is settled, which disarms the fuse
+abbrev pub stopped : World → State → World
+stopped w s = record w { host = Stopped s; fuse = None; conns = from_entries {R = nat_cmp} (map emptied_conn (entries w.conns)) }
+
+-- so many calls of the disk with a fuse: it stays, with what is left, or it fires at the call of that number
+pub data Burnt : Type 0 where
+  Intact : Option Fuse → Burnt
+  Fires : (call : ℕ) → Lines.How → Burnt
+
+abbrev pub burn : ℕ → Option Fuse → Burnt
+burn calls None = Intact None
+burn calls (Some f) = if nat_le f.left calls then Fires f.left f.how else Intact (Some (record { left = f.left - calls; how = f.how }))
+
+-- a commit makes four calls, none where nothing is committed
+abbrev pub commit_calls : Option Entry → ℕ
+commit_calls None = 0
+commit_calls (Some e) = 4
+
+abbrev pub leaves_new : Lines.How → Bool
+leaves_new Lines.Old = false
+leaves_new Lines.New = true
+leaves_new Lines.Torn = true
+
+-- the third call opens the record's gate, so from there on a stop that leaves what was written leaves the entry
+abbrev pub is_kept : ℕ → Lines.How → Bool
+is_kept call how = nat_le 3 call && leaves_new how
+
+abbrev pub entries_in : Option Entry → List Entry
+entries_in None = []
+entries_in (Some e) = e ∷ []
+
+abbrev pub state_with : State → Option Entry → State
+state_with s None = s
+state_with s (Some e) = after s e
+
+-- which actor a connection was given by a step of the server
+abbrev pub actor_on : Option Link → Option ℕ
+actor_on None = None
+actor_on (Some l) = l.actor
+
+abbrev pub owner_of : Option Conn → Option ℕ
+owner_of None = None
+owner_of (Some q) = q.owner
+
+abbrev pub newly_given : Option ℕ → Option ℕ → Option ℕ → List (ℕ × Option ℕ)
+newly_given None (Some a) owner = (a, owner) ∷ []
+newly_given None None owner = []
+newly_given (Some b) now owner = []
+
+abbrev pub given_by : World → Server → Served → ℕ → List (ℕ × Option ℕ)
+given_by w v out k = newly_given (actor_on (get v.links k)) (actor_on (get out.server.links k)) (owner_of (get w.conns k))
+
+-- nothing of the event in which a fuse fires is sent
+abbrev pub answered : World → Server → ℕ → Served → Burnt → Stepped
+answered w v k out (Intact fuse) = record {
+  world = record w { host = Running out.server; fuse = fuse; conns = deliver w.conns out.outs };
+  lines = [];
+  entries = entries_in out.entry;
+  issues = [];
+  given = given_by w v out k;
+}
+answered w v k out (Fires call how) =
+    if is_kept call how
+    then record { world = stopped w (state_with v.state out.entry); lines = []; entries = entries_in out.entry; issues = []; given = [] }
+    else quiet (stopped w v.state)
+
+abbrev pub answer : World → Server → ℕ → Served → Stepped
+answer w v k out = answered w v k out (burn (commit_calls out.entry) w.fuse)
+
+-- up: the server takes the next frame of a connection
+
+abbrev pub up_from : World → ℕ → Host → Conn → List Up → Stepped
+up_from w k (Running v) q (u ∷ us) = answer (with_conn w k (record q { up = us })) v k (serve v k u)
+up_from w k (Running v) q [] = quiet w
+up_from w k (Stopped s) q us = quiet w
+
+abbrev pub up_at : World → ℕ → Option Conn → Stepped
+up_at w k None = quiet w
+up_at w k (Some q) = up_from w k w.host q q.up
+
+abbrev pub goes_up : World → ℕ → Stepped
+goes_up w k = up_at w k (get w.conns k)
+
+-- down: the client, or the link, of a connection takes what comes next
+
+-- a link writes what it gets
+abbrev pub link_takes : World → ℕ → Down → Stepped
+link_takes w k Pong = saying w (Lines.got_line k (codes "pong") ∷ [])
+link_takes w k (Message m) = saying w (Lines.got_line k (server_text m) ∷ [])
+link_takes w k (Closed code text) = saying w (Lines.closed_line k code text ∷ [])
+
+abbrev pub event_lines : ℕ → List (ℕ × Json) → List (List ℕ)
+event_lines c [] = []
+event_lines c (e ∷ es) = Lines.event_line c e ∷ event_lines c es
+
+-- a client that refuses a frame is lost, and its connection is as after a cut
+abbrev pub frame_taken : World → ℕ → ℕ → ℕ → Seat → Result Took Refusal → Stepped
+frame_taken w line c k p (Err out) = saying
+    (with_seat (cut_present w p.present) c (record { account = out.account; present = None; noticed = p.noticed }))
+    (Lines.refused_line line (Lines.frame_fault_words out.fault) ∷ [])
+frame_taken w line c k p (Ok out) = saying
+    (send_up (with_seat w c (record { account = out.account; present = p.present; noticed = out.notices })) k (map frame_up out.replies))
+    (event_lines c out.events)
+
+abbrev pub client_takes : World → ℕ → ℕ → ℕ → Seat → Down → Stepped
+client_takes w line c k p Pong = frame_taken w line c k p (frame_comes p.account PongOf)
+client_takes w line c k p (Message m) = frame_taken w line c k p (frame_comes p.account (ServerMsgsOf (m ∷ [])))
+client_takes w line c k p (Closed code text) = saying (cut_seat w c p) (Lines.closed_line k code text ∷ [])
+
+abbrev pub taken_by : World → ℕ → ℕ → ℕ → Down → Option Seat → Stepped
+taken_by w line c k m None = quiet w
+taken_by w line c k m (Some p) = client_takes w line c k p m
+
+abbrev pub owner_takes : World → ℕ → ℕ → Down → Option ℕ → Stepped
+owner_takes w line k m None = link_takes w k m
+owner_takes w line k m (Some c) = taken_by w line c k m (get w.clients c)
+
+abbrev pub down_from : World → ℕ → ℕ → Conn → List Down → Stepped
+down_from w line k q [] = quiet w
+down_from w line k q (m ∷ ms) = owner_takes (with_conn w k (record q { down = ms })) line k m q.owner
+
+abbrev pub down_at : World → ℕ → ℕ → Option Conn → Stepped
+down_at w line k None = quiet w
+down_at w line k (Some q) = down_from w line k q q.down
+
+abbrev pub comes_down : World → ℕ → ℕ → Stepped
+comes_down w line k = down_at w line k (get w.conns k)
+
+-- drain: so many times, up for the least connection with something up, else down for the least with something down
+
+abbrev pub has_up : Conn → Bool
+has_up q = is_some_list q.up
+
+abbrev pub has_down : Conn → Bool
+has_down q = is_some_list q.down
+
+abbrev pub least : (Conn → Bool) → List (ℕ × Conn) → Option ℕ
+least p [] = None
+least p (e ∷ es) = if p e.1 then Some e.0 else least p es
+
+abbrev pub drain_step : World → ℕ → Option ℕ → Option ℕ → Option Stepped
+drain_step w line (Some k) down = Some (goes_up w k)
+drain_step w line None (Some k) = Some (comes_down w line k)
+drain_step w line None None = None
+
+abbrev pub drain_next : World → ℕ → Option Stepped
+drain_next w line = drain_step w line (least has_up (entries w.conns)) (least has_down (entries w.conns))
+
+abbrev pub then_stepped : Stepped → Stepped → Stepped
+then_stepped before out = record {
+  world = out.world;
+  lines = before.lines ++ out.lines;
+  entries = before.entries ++ out.entries;
+  issues = before.issues ++ out.issues;
+  given = before.given ++ out.given;
+}
+
+abbrev pub or_quiet : World → Option Stepped → Stepped
+or_quiet w None = quiet w
+or_quiet w (Some out) = out
+
+-- where nothing waits, no step does anything
+abbrev pub drain_from : ℕ → ℕ → Stepped → Stepped
+drain_from zero line so_far = so_far
+drain_from (suc n) line so_far = drain_from n line (then_stepped so_far (or_quiet so_far.world (drain_next so_far.world line)))
+
+unfoldable pub drain : World → ℕ → ℕ → Stepped
+drain w line n = drain_from n line (quiet w)
+
+-- calls of a client
+
+abbrev pub issued_by : ℕ → List Batch → List (ℕ × Batch)
+issued_by c [] = []
+issued_by c (b ∷ bs) = (c, b) ∷ issued_by c bs
+
+-- a call that answered notices, or none of its own
+abbrev pub done_noticed : World → ℕ → Seat → Done → Stepped
+done_noticed w c p out = record (quiet (with_seat w c (record { account = out.account; present = p.present; noticed = out.notices }))) { issues = issued_by c out.issues }
+
+abbrev pub done_quiet : World → ℕ → Seat → Done → Stepped
+done_quiet w c p out = record (quiet (with_seat w c (with_account p out.account))) { issues = issued_by c out.issues }
+
+abbrev pub refuses : World → ℕ → List (List ℕ) → Stepped
+refuses w line ws = saying w (Lines.refused_line line ws ∷ [])
+
+abbrev pub edit_out : World → ℕ → ℕ → Seat → Result Done EditFault → Stepped
+edit_out w line c p (Err fault) = refuses w line (Lines.edit_fault_words fault)
+edit_out w line c p (Ok out) = done_noticed w c p out
+
+abbrev pub begin_out : World → ℕ → ℕ → Seat → Result Account BatchFault → Stepped
+begin_out w line c p (Err fault) = refuses w line (Lines.batch_fault_words fault)
+begin_out w line c p (Ok x) = quiet (with_seat w c (with_account p x))
+
+abbrev pub end_out : World → ℕ → ℕ → Seat → Result Done BatchFault → Stepped
+end_out w line c p (Err fault) = refuses w line (Lines.batch_fault_words fault)
+end_out w line c p (Ok out) = done_quiet w c p out
+
+abbrev pub back_out : World → ℕ → ℕ → Seat → Result (Option Done) UndoFault → Stepped
+back_out w line c p (Err fault) = refuses w line (Lines.undo_fault_words fault)
+back_out w line c p (Ok None) = saying w (Lines.nothing_line line ∷ [])
+back_out w line c p (Ok (Some out)) = done_noticed w c p out
+
+abbrev pub say_out : World → ℕ → ℕ → Seat → Result Account SayFault → Stepped
+say_out w line c p (Err fault) = refuses w line (Lines.say_fault_words fault)
+say_out w line c p (Ok x) = quiet (with_seat w c (with_account p x))
+
+abbrev pub speaks : World → ℕ → Seat → Account → List (List ClientMsg) → Stepped
+speaks w c p x frames = quiet (send_present (with_seat w c (with_account p x)) p.present frames)
+
+-- a line of the client c, which is there
+
+abbrev pub client_line : World → ℕ → ℕ → Seat → Lines.Line → Stepped
+client_line w line c p (Lines.Dial d) = quiet (dial_seat w c p)
+client_line w line c p (Lines.Edits d e) = edit_out w line c p (edit p.account e)
+client_line w line c p (Lines.Begin d) = begin_out w line c p (batch_begin p.account)
+client_line w line c p (Lines.End d) = end_out w line c p (batch_end p.account)
+client_line w line c p (Lines.Undo d) = back_out w line c p (go_back Back p.account)
+client_line w line c p (Lines.Redo d) = back_out w line c p (go_back Forth p.account)
+client_line w line c p (Lines.Pause d) = quiet (with_seat w c (with_account p (pause p.account)))
+client_line w line c p (Lines.Resume d) = quiet (with_seat w c (with_account p (resume p.account)))
+client_line w line c p (Lines.Clear d) = quiet (with_seat w c (with_account p (clear p.account)))
+client_line w line c p (Lines.Presence d patch in_history) = say_out w line c p (presence p.account patch in_history)
+client_line w line c p (Lines.Event d e) = say_out w line c p (event p.account e)
+client_line w line c p (Lines.Flush d) = speaks w c p (flushed p.account) (flush_frames p.account)
+client_line w line c p (Lines.Resend d) = speaks w c p (resent p.account) (resend_frames p.account)
+client_line w line c p (Lines.Cut d) = quiet (cut_seat w c p)
+client_line w line c p (Lines.Show spot) = saying w (Lines.show_line c p.account ∷ [])
+client_line w line c p (Lines.Brief spot) = saying w (Lines.brief_line c p.account ∷ [])
+client_line w line c p (Lines.Others d) = saying w (Lines.others_line c p.account ∷ [])
+client_line w line c p (Lines.HistoryOf d) = saying w (Lines.history_line c p.account ∷ [])
+client_line w line c p (Lines.NoticesOf d) = saying w (Lines.notices_line c p.noticed ∷ [])
+client_line w line c p l = quiet w
+
+abbrev pub client_at : World → ℕ → ℕ → Lines.Line → Option Seat → Stepped
+client_at w line c l None = quiet w
+client_at w line c l (Some p) = client_line w line c p l
+
+abbrev pub of_client : World → ℕ → ℕ → Lines.Line → Stepped
+of_client w line c l = let u = seated w c in client_at u line c l (get u.clients c)
+
+-- lines of connections and of the server
+
+-- the server notices that a connection is gone
+abbrev pub gone_conn : FinMap nat_cmp Conn → ℕ → Option Conn → FinMap nat_cmp Conn
+gone_conn qs k None = qs
+gone_conn qs k (Some q) = insert qs k (record q { up = [] })
+
+abbrev pub gone_on : World → ℕ → Host → Bool → World
+gone_on w k (Running v) true =
+    let out = gone v k in record w { host = Running out.server; conns = deliver (gone_conn w.conns k (get w.conns k)) out.outs }
+gone_on w k (Running v) false = w
+gone_on w k (Stopped s) b = w
+
+abbrev pub goes : World → ℕ → World
+goes w k = gone_on w k w.host (is_attached w k)
+
+-- a text goes up on a link; on a client's connection nothing happens
+
+abbrev pub raw_on : World → ℕ → List ℕ → Option ℕ → World
+raw_on w k text None = send_up w k (client_frame_in text ∷ [])
+raw_on w k text (Some c) = w
+
+abbrev pub raw_at : World → ℕ → List ℕ → Option Conn → World
+raw_at w k text None = w
+raw_at w k text (Some q) = raw_on w k text q.owner
+
+abbrev pub stop : World → Host → World
+stop w (Running v) = stopped w v.state
+stop w (Stopped s) = w
+
+-- a start makes two calls of the disk
+abbrev pub started : World → State → Burnt → Stepped
+started w s (Intact fuse) = saying
+    (record w { host = Running (record { state = s; room = room; limits = w.limits; access = None; links = empty }); fuse = fuse })
+    (Lines.start_line s ∷ [])
+started w s (Fires call how) = saying (stopped w s) (Lines.start_failed_line ∷ [])
+
+abbrev pub start : World → Host → Stepped
+start w (Running v) = quiet w
+start w (Stopped s) = started w s (burn 2 w.fuse)
+
+-- a compaction makes six calls of the disk, and leaves the state as it is
+abbrev pub compacted : World → Server → Burnt → World
+compacted w v (Intact fuse) = record w { fuse = fuse }
+compacted w v (Fires call how) = stopped w v.state
+
+abbrev pub compact : World → Host → World
+compact w (Running v) = compacted w v (burn 6 w.fuse)
+compact w (Stopped s) = w
+
+abbrev pub limited : Host → Limits → Host
+limited (Running v) limits = Running (record v { limits = limits })
+limited (Stopped s) limits = Stopped s
+
+abbrev pub limit : World → Limits → World
+limit w limits = record w { host = limited w.host limits; limits = limits }
+
+abbrev pub server_shown : Host → List ℕ
+server_shown (Running v) = Lines.server_line v.state
+server_shown (Stopped s) = Lines.server_stopped_line
+
+abbrev pub server_brief : Host → List ℕ
+server_brief (Running v) = Lines.server_brief_line v.state
+server_brief (Stopped s) = Lines.server_stopped_line
+
+-- a line of the schedule, with its number
+abbrev pub step : World → ℕ → Lines.Line → Stepped
+step w line (Lines.Dial c) = of_client w line c (Lines.Dial c)
+step w line (Lines.Edits c e) = of_client w line c (Lines.Edits c e)
+step w line (Lines.Begin c) = of_client w line c (Lines.Begin c)
+step w line (Lines.End c) = of_client w line c (Lines.End c)
+step w line (Lines.Undo c) = of_client w line c (Lines.Undo c)
+step w line (Lines.Redo c) = of_client w line c (Lines.Redo c)
+step w line (Lines.Pause c) = of_client w line c (Lines.Pause c)
+step w line (Lines.Resume c) = of_client w line c (Lines.Resume c)
+step w line (Lines.Clear c) = of_client w line c (Lines.Clear c)
+step w line (Lines.Presence c patch in_history) = of_client w line c (Lines.Presence c patch in_history)
+step w line (Lines.Event c e) = of_client w line c (Lines.Event c e)
+step w line (Lines.Flush c) = of_client w line c (Lines.Flush c)
+step w line (Lines.Resend c) = of_client w line c (Lines.Resend c)
+step w line (Lines.Cut c) = of_client w line c (Lines.Cut c)
+step w line (Lines.Show (Lines.AClient c)) = of_client w line c (Lines.Show (Lines.AClient c))
+step w line (Lines.Show Lines.TheServer) = saying w (server_shown w.host ∷ [])
+step w line (Lines.Brief (Lines.AClient c)) = of_client w line c (Lines.Brief (Lines.AClient c))
+step w line (Lines.Brief Lines.TheServer) = saying w (server_brief w.host ∷ [])
+step w line (Lines.Others c) = of_client w line c (Lines.Others c)
+step w line (Lines.HistoryOf c) = of_client w line c (Lines.HistoryOf c)
+step w line (Lines.NoticesOf c) = of_client w line c (Lines.NoticesOf c)
+step w line (Lines.Goes_up k) = goes_up w k
+step w line (Lines.Comes_down k) = comes_down w line k
+step w line (Lines.Drain n) = drain w line n
+step w line (Lines.Gone k) = quiet (goes w k)
+step w line Lines.Stop = quiet (stop w w.host)
+step w line Lines.Start = start w w.host
+step w line (Lines.Fuse calls how) = quiet (record w { fuse = Some (record { left = calls; how = how }) })
+step w line Lines.Compact = quiet (compact w w.host)
+step w line (Lines.Limit updates sessions) = quiet (limit w (record { updates = updates; sessions = sessions }))
+step w line Lines.Link = quiet (open_conn w None)
+step w line (Lines.Raw k text) = quiet (raw_at w k text (get w.conns k))
+
+-- the default limits
+abbrev pub first_limits : Limits
+first_limits = record { updates = 1000000000000; sessions = 1000000 }
+
+-- a recovered server, and nobody there
+abbrev pub opening : State → World
+opening s = record {
+  host = Running (record { state = s; room = room; limits = first_limits; access = None; links = empty });
+  limits = first_limits;
+  fuse = None;
+  clients = empty;
+  conns = empty;
+  opened = 0;
+}
