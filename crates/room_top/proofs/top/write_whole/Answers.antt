@@ -1,0 +1,20 @@
+use Rattle.std.proofs.Common.{◌≡◌, ◌++◌, ◌-◌, ◌+◌, length, take, drop, subst, sym, arith, ap, ◌∙◌, length-drop, length-take}
+use Rattle.std.proofs.Math.Seq.{take-add}
+use Rattle.std.proofs.lemmas.List.{take_all}
+use Rattle.std.specs.Io.KnownBytes.{Appends}
+use Rattle.room_top.proofs.Known.{Appends-trans}
+use Rattle.room_top.proofs.top.write_whole.Goals as goal
+
+pub loop-at-preserved : goal.loop-at-preserved
+loop-at-preserved g c =
+    let s = g.K.Sink in
+    let at = c.loop-at.at in
+    let n = c.in-Ok.count in
+    let xs = c.args.piece.now in
+    let rest = take (length xs - at) (drop at xs) in
+    let joined : take (at + n) xs ≡ take at xs ++ take n rest =
+    take-add at n xs ∙ ap (λ l. take at xs ++ take n l) (sym (take_all (length xs - at) (drop at xs) (grind (arith, length-drop)))) in (
+      subst (Appends (s.written c.args.sink.now) (s.written c.write.new.self)) (sym joined) (Appends-trans _ _ _ _ _ c.loop-at.invariant.0 c.in-Ok.ensures.bytes),
+      omega (arith, c.loop-at.invariant.1, c.in-Ok.ensures.later),
+      grind (arith, length-drop, length-take),
+    )

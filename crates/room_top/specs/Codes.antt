@@ -1,0 +1,20 @@
+-- Codes of trees, by which values are told apart.
+use Rattle.std.specs.Coded.{Coded, codes}
+use Rattle.std.specs.FinMap as map
+use Rattle.room_ids.specs.declared.ids.NodeId.{NodeId}
+use Rattle.room_json.specs.Codes.{coded_value, coded_list_of_fields}
+use Rattle.room_nodes.specs.declared.nodes.Node.{Node}
+use Rattle.room_nodes.specs.declared.nodes.Body.{Body}
+use Rattle.room_nodes.specs.Shape.{Nodes}
+
+pub id_code : Coded NodeId
+id_code = Prim.hlevel codes
+
+pub node_code : Coded Node
+node_code = Prim.hlevel (codes, coded_value, coded_list_of_fields)
+
+pub body_code : Coded Body
+body_code = Prim.hlevel (codes, coded_value, coded_list_of_fields)
+
+pub nodes_code : Coded Nodes
+nodes_code = map.code id_code node_code

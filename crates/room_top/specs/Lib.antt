@@ -1,0 +1,15 @@
+pub mod Roots
+pub mod Messages
+pub mod Codes
+pub mod Log
+pub mod Account
+pub mod Serve
+pub mod Queues
+pub mod Mapcodes
+pub mod Place
+pub mod World
+pub mod Report
+pub mod Grammar
+pub mod Outcome
+pub mod Misreading
+pub mod Laws
