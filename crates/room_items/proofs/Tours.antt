@@ -1,5 +1,5 @@
 -- The preorder of a well-formed tree: each node once, behind its parent, and all of them.
-use Rattle.std.proofs.Common.{◌≡◌, ◌≢◌, ◌⊎◌, inl, inr, ◌+◌, ◌<◌, ℕ, zero, suc, List, [], ◌∷◌, ◌++◌, flat_map, T, Option, Some, None, Less, refl, sym, ap, ◌∙◌, subst, arith, append_assoc, append-nil}
+use Rattle.std.proofs.Common.{◌≡◌, ◌≢◌, ◌⊎◌, inl, inr, ◌+◌, ◌<◌, ℕ, zero, suc, Bool, true, false, ◌||◌, List, [], ◌∷◌, ◌++◌, flat_map, T, Option, Some, None, Less, refl, sym, ap, ◌∙◌, subst, arith, append_assoc, append-nil}
 use Rattle.std.specs.Cmp.Lexicographic.{slice_cmp}
 use Rattle.std.specs.FinMap.{get, entries, is_sorted}
 use Rattle.std.specs.FinMap.Entries.{below_all}
@@ -7,17 +7,27 @@ use Rattle.std.specs.Ordering.{nat_cmp}
 use Rattle.std.proofs.lemmas.Cmp.{nat_list_cmp_total}
 use Rattle.room_ids.specs.declared.ids.NodeId.{NodeId}
 use Rattle.room_ids.specs.declared.ids.NodeId.TheVariants.{Root}
-use Rattle.room_nodes.specs.Shape.{Nodes, IsFormed, children, child_at, up, parent_of}
+use Rattle.room_ids.specs.Order.{is_same}
+use Rattle.room_nodes.specs.Shape.{Nodes, IsFormed, children, child_at, up, parent_of, leads_to, is_below}
 use Rattle.room_nodes.specs.Steps.{depth_in}
 use Rattle.room_nodes.specs.declared.nodes.Node.{Node}
+use Rattle.room_nodes.proofs.Below.{below_step, below_root}
 use Rattle.room_nodes.proofs.Children.{text_exact, is_child_of, answer_of, child_at_none, child_at_some}
 use Rattle.room_nodes.proofs.Fitting.{the_parent}
-use Rattle.room_nodes.proofs.Gets.{one_or_two, same, some_inj}
+use Rattle.room_nodes.proofs.Gets.{one_or_two, same, same_self, some_inj, true_false}
 use Rattle.room_nodes.proofs.Listing.{Has, has_above, parts, find_has}
 use Rattle.room_nodes.proofs.Places.{children_sorted, not_below_itself}
-use Rattle.room_items.specs.Preorder.{preorder_within}
+use Rattle.room_items.specs.Preorder.{preorder, preorder_within}
 use Rattle.room_items.proofs.Childs.{Kid}
 use Rattle.room_items.proofs.Walks.{Walk, Step, rev_on, rev_on-append, rev_keeps, rev_has}
+
+or_parts : (a b : Bool) → (a || b) ≡ true → (a ≡ true) ⊎ (b ≡ true)
+or_parts true b e = inl refl
+or_parts false b e = inr e
+
+or_right : (a b : Bool) → b ≡ true → (a || b) ≡ true
+or_right true b e = refl
+or_right false b e = e
 
 -- what a list of lists has
 
@@ -185,19 +195,23 @@ module _ (t : Nodes) (f : IsFormed t) where
         rest,
   )
 
-  -- below the root
-  pub tour_root : Walk t (Root ∷ []) (below 59 Root)
-  tour_root = subst (Walk t (Root ∷ [])) (append-nil (below 59 Root)) (tour_kids 59 (tour 59) Root [] (children t Root) refl (Root ∷ []) [] (inl refl)
+  -- what lies below a node, behind it
+  pub tour_under : (x : NodeId) → Walk t (x ∷ []) (below 59 x)
+  tour_under x = subst (Walk t (x ∷ [])) (append-nil (below 59 x)) (tour_kids 59 (tour 59) x [] (children t x) refl (x ∷ []) [] (inl refl)
       (λ y h g. elim g [
         | inl e ↦
-            let r = flat_has (λ (e : List ℕ × NodeId). preorder_within 59 t e.1) y (children t Root) h in
+            let r = flat_has (λ (e : List ℕ × NodeId). preorder_within 59 t e.1) y (children t x) h in
             let l = lies 59 r.0.1 y r.2 in
-            let k = kid_of Root r.0 r.1 in
-            let same_depth : depth_at Root ≡ depth_at y = ap depth_at e in
+            let k = kid_of x r.0 r.1 in
+            let same_depth : depth_at x ≡ depth_at y = ap depth_at e in
             omega (arith, l.depth, k.depth, same_depth)
         | inr g2 ↦ g2
       ])
       tt)
+
+  -- below the root
+  pub tour_root : Walk t (Root ∷ []) (below 59 Root)
+  tour_root = tour_under Root
 
   -- ---- all of them
 
@@ -235,3 +249,51 @@ module _ (t : Nodes) (f : IsFormed t) where
         let q : depth_at m.parent ≡ p.0.depth = ap depth_in p.1 in
         further 60 Root m.parent y m made there refl (all_there d m.parent p.0 p.1 (omega (arith, p.2.depth, deep))) (omega (arith, p.2.depth, p.2.deep, q))
   ]
+
+  -- ---- what the preorder of a node has is just what lies below it
+
+  leads_here : (n : ℕ) (x y : NodeId) → y ≡ x → leads_to n t x y ≡ true
+  leads_here zero x y e = ap (λ z. is_same z x) e ∙ same_self x
+  leads_here (suc n) x y e = ap (λ b. b || leads_to n t x (up t y)) (ap (λ z. is_same z x) e ∙ same_self x)
+
+  -- from below a child
+  leads_more : (n : ℕ) (x c y : NodeId) → up t c ≡ x → leads_to n t c y ≡ true → leads_to (suc n) t x y ≡ true
+  leads_more zero x c y u h = or_right (is_same y x) _ (leads_here 0 x (up t y) (ap (up t) (same y c h) ∙ u))
+  leads_more (suc n) x c y u h = elim (or_parts (is_same y c) _ h) [
+    | inl e ↦ or_right (is_same y x) _ (leads_here (suc n) x (up t y) (ap (up t) (same y c e) ∙ u))
+    | inr g ↦ or_right (is_same y x) _ (leads_more n x c (up t y) u g)
+  ]
+
+  within : (n : ℕ) (x y : NodeId) → Has y (preorder_within n t x) → leads_to n t x y ≡ true
+  unfolding preorder_within
+  within zero x y h = elim h [ inl e ↦ leads_here 0 x y (sym e) | inr g ↦ absurd g ]
+  within (suc n) x y h = elim h [
+    | inl e ↦ leads_here (suc n) x y (sym e)
+    | inr g ↦
+        let r = flat_has (λ (e : List ℕ × NodeId). preorder_within n t e.1) y (children t x) g in
+        let k = kid_of x r.0 r.1 in
+        leads_more n x r.0.1 y (ap parent_of k.there ∙ k.parent) (within n r.0.1 y r.2)
+  ]
+
+  pub is_within : (x y : NodeId) → Has y (preorder t x) → is_below t x y ≡ true
+  unfolding preorder is_below
+  is_within x y h = within 60 x y h
+
+  module _ (x : NodeId) (made : x ≢ Root) where
+    not_root : (y : NodeId) → is_below t x y ≡ true → y ≢ Root
+    not_root y h e = true_false (sym h ∙ ap (is_below t x) e ∙ below_root t f x made)
+
+    reached : (d : ℕ) (y : NodeId) (m : Node) → get t y ≡ Some m → m.depth ≡ d → is_below t x y ≡ true → Has y (preorder_within 60 t x)
+    reached zero y m there deep h = let p = the_parent t f y m (not_root y h) there in absurd (omega (arith, p.2.depth, deep))
+    reached (suc d) y m there deep h =
+        let other = not_root y h in
+        let p = the_parent t f y m other there in
+        let q : depth_at m.parent ≡ p.0.depth = ap depth_in p.1 in
+        elim (or_parts (is_same y x) _ (sym (below_step t f x y m other there) ∙ h)) [
+          | inl e ↦ subst (λ z. Has z (preorder_within 60 t x)) (sym (same y x e)) (has_itself 60 x)
+          | inr g ↦ further 60 x m.parent y m other there refl (reached d m.parent p.0 p.1 (omega (arith, p.2.depth, deep)) g) (omega (arith, p.2.depth, p.2.deep, q))
+        ]
+
+    pub has_below : (y : NodeId) (m : Node) → get t y ≡ Some m → is_below t x y ≡ true → Has y (preorder t x)
+    unfolding preorder
+    has_below y m there h = reached m.depth y m there refl h

@@ -1,11 +1,13 @@
 -- Laws of the definitions.
-use Rattle.std.specs.Prelude.{◌≡◌, ◌<◌, ◌≤◌, ◌+◌, ◌⊎◌, ℕ, Bool, List, [], ◌∷◌, ◌++◌, length, Some, IsSome, Ok}
+use Rattle.std.specs.Prelude.{◌≡◌, ◌<◌, ◌≤◌, ◌+◌, ◌⊎◌, ℕ, Bool, false, List, [], ◌∷◌, ◌++◌, length, Some, IsSome, Ok}
 use Rattle.room_json.specs.Value.{Value}
 use Rattle.room_json.specs.declared.tree.Json.{Json}
 use Rattle.room_nodes.specs.declared.nodes.Op.{Op}
 use Rattle.room_nodes.specs.declared.nodes.Body.{Body}
 use Rattle.room_nodes.specs.declared.nodes.Change.{Change}
+use Rattle.room_nodes.specs.Cells.{Agrees, AgreesOn, IsApart, cells_all, overlaps_some, writes_all}
 use Rattle.room_nodes.specs.Shape.{Nodes, IsFormed}
+use Rattle.room_nodes.specs.declared.cells.Cell.{Cell}
 use Rattle.room_nodes.specs.Steps.{fold}
 use Rattle.room_msg.specs.declared.messages.ServerMsg.{ServerMsg}
 use Rattle.room_model.specs.Log.{Session, State, Update, Entry, Updated, session_of, after}
@@ -34,6 +36,29 @@ ValidAfter = (s : State) (e : Entry) → IsValidState s → IsNext s e → IsVal
 -- a batch and its reversal lead back; fields stand in byte order, as members do
 abbrev pub Reversible : Type 0
 Reversible = (t : Nodes) (bs : List Body) → IsFormed t → IsOrderedTree t → AreOrderedBodies bs → fold (fold t bs) (reverse_all t bs) ≡ t
+
+-- what operations touch: outside the cells that they write the tree stays; trees that agree on their cells agree on them
+-- after; and lists that are apart may be done in either order
+
+abbrev pub Outside : Type 0
+Outside = (t : Nodes) (bs : List Body) (c : Cell) → IsFormed t → overlaps_some c (writes_all t bs) ≡ false → AgreesOn t (fold t bs) c
+
+abbrev pub AlikeAfter : Type 0
+AlikeAfter = (t u : Nodes) (bs : List Body) → IsFormed t → IsFormed u → Agrees t u (cells_all t bs) → Agrees (fold t bs) (fold u bs) (cells_all t bs)
+
+abbrev pub EitherOrder : Type 0
+EitherOrder = (t : Nodes) (bs cs : List Body) → IsFormed t → IsOrderedTree t → AreOrderedBodies bs → AreOrderedBodies cs → IsApart t bs cs → fold (fold t bs) cs ≡ fold (fold t cs) bs
+
+pub record Footprints : Type 0 where
+  pub outside : Outside
+  pub alike : AlikeAfter
+  pub either_order : EitherOrder
+
+-- undoing a batch whose cells nothing else touched restores them. The batch was made on s and taken on t, which agree on
+-- its cells; then came zs, apart from it; then its reversal, as it was taken on s. The tree is as if neither had been
+abbrev pub UndoRestores : Type 0
+UndoRestores = (s t : Nodes) (bs zs : List Body) → IsFormed s → IsFormed t → IsOrderedTree s → IsOrderedTree t → AreOrderedBodies bs → AreOrderedBodies zs →
+    Agrees s t (cells_all s bs) → IsApart t zs bs → fold (fold (fold t bs) zs) (reverse_all s bs) ≡ fold t zs
 
 -- the history's lists hold 50 entries at most, and a bag stands beside an empty redo list
 pub record IsBounded (h : History) : Type 0 where

@@ -1,5 +1,5 @@
 ghost use Rattle.room_model.specs.Samples.{Samples};
-ghost use Rattle.room_model.specs.Laws.{HistoryBounded, KeepsClocks, ReportInOrder, TakenOnce, ValidAfter};
+ghost use Rattle.room_model.specs.Laws.{Footprints, HistoryBounded, KeepsClocks, ReportInOrder, Reversible, TakenOnce, UndoRestores, ValidAfter};
 
 /// What was taken of a session's operations is taken once: the same operations again are nothing.
 pub fn taken_once()
@@ -29,4 +29,23 @@ pub fn keeps_clocks()
 /// Samples of the definitions: edits, what is taken, history, notices, closes and fuses.
 pub fn samples()
     ensures { Samples }
+{}
+
+/// A batch and its reversal lead back: the tree is what it was. Fields stand in byte order of their names, each name once.
+pub fn reversible()
+    ensures { Reversible }
+{}
+
+/// What operations touch. Outside the cells that they write the tree stays as it was; two trees that agree on the cells
+/// of a list of operations agree on them after it; and two lists of which neither writes what the other reads or
+/// writes may be done in either order. Fields stand in byte order of their names, each name once.
+pub fn footprints()
+    ensures { Footprints }
+{}
+
+/// Undoing a batch whose cells nothing else touched restores them: a batch, then operations that are apart from it, then
+/// the reversal that was taken of it where it was made, leave the tree as if neither batch nor reversal had been. The
+/// tree on which it was made and the one on which it was taken agree on its cells.
+pub fn undo_restores()
+    ensures { UndoRestores }
 {}

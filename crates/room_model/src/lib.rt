@@ -17,4 +17,7 @@
 
 mod laws;
 
-pub use laws::{history_bounded, keeps_clocks, report_in_order, samples, taken_once, valid_after};
+pub use laws::{
+    footprints, history_bounded, keeps_clocks, report_in_order, reversible, samples, taken_once,
+    undo_restores, valid_after,
+};
