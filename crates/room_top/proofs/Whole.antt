@@ -1,5 +1,5 @@
 -- All lines.
-use Rattle.std.proofs.Common.{◌≡◌, ℕ, zero, suc, ◌+◌, ◌-◌, ◌<◌, ◌≤◌, Bool, true, false, ⊎_elim, List, [], ◌∷◌, ◌++◌, take, length, refl, sym, ap, ◌∙◌, subst, arith, append-nil, append_assoc, Option, Some, None, option_map, is_some, nat_cmp}
+use Rattle.std.proofs.Common.{◌≡◌, ℕ, zero, suc, ◌+◌, ◌-◌, ◌<◌, ◌≤◌, Bool, true, false, ⊎_elim, List, [], ◌∷◌, ◌++◌, take, length, length-append, refl, sym, ap, ◌∙◌, subst, arith, append-nil, append_assoc, Option, Some, None, option_map, is_some, nat_cmp}
 use Rattle.std.proofs.lemmas.List.{take_at}
 use Rattle.std.proofs.lemmas.Bool.{cases_eq}
 use Rattle.std.specs.FinMap.{FinMap, get, insert, empty, get-empty}
@@ -334,21 +334,29 @@ all_begins s = record {
 }
 
 module _ (s : State) (us : List Update) (last : ℕ) (x : Account) (q : Queues) (k : Link) where
-  at_done : (t : Tree) → x.confirmed ≡ Some t → Holds s us last x q k → (t ≡ tree_after s.tree (take (x.n - s.count) us)) × (x.told ≡ last_after x.actor 0 (take (x.n - s.count) us))
+  at_done : (t : Tree) → x.confirmed ≡ Some t → Holds s us last x q k
+      → (t ≡ tree_after s.tree (take (x.n - s.count) us)) × (x.told ≡ last_after x.actor 0 (take (x.n - s.count) us)) × (s.count ≤ x.n) × (x.n ≤ s.count + length us)
   at_done t e h =
       let shown : ShowsAt s h.done k.actor x (Some t) = rw e at h.shows in
-      let front : take (x.n - s.count) us ≡ h.done = ap (take (x.n - s.count)) h.whole ∙ take_at h.done h.coming (x.n - s.count) (omega arith) in
-      (rw front shown.tree, rw (front, shown.actor) (sym (last_after_is k.actor s.tree 0 h.done h.all (issued x) x.told h.ledger.chain h.ledger.took)))
+      let front : take (x.n - s.count) us ≡ h.done = ap (take (x.n - s.count)) h.whole ∙ take_at h.done h.coming (x.n - s.count) (omega arith) in (
+        rw front shown.tree,
+        rw (front, shown.actor) (sym (last_after_is k.actor s.tree 0 h.done h.all (issued x) x.told h.ledger.chain h.ledger.took)),
+        omega (arith, shown.n),
+        omega (arith, shown.n, ap length h.whole, length-append h.done h.coming),
+      )
 
 no_batches : (bs : List Batch) → length bs ≡ 0 → bs ≡ []
 no_batches [] e = refl
 no_batches (b ∷ bs) e = absurd (omega arith)
 
-shows : (s : State) (log : List Entry) (x : Account) (t : Tree) → x.confirmed ≡ Some t → (t ≡ tree_at s log x.n) × (x.told ≡ last_at s log x.n x.actor) → Shows s log x t
+shows : (s : State) (log : List Entry) (x : Account) (t : Tree) → x.confirmed ≡ Some t
+    → (t ≡ tree_at s log x.n) × (x.told ≡ last_at s log x.n x.actor) × (s.count ≤ x.n) × (x.n ≤ s.count + length (updates_of log)) → Shows s log x t
 shows s log x t e p =
     let over : shown x ≡ Some (with_batches (tree_at s log x.n) (issued x)) =
     ap (option_map (λ u. with_batches u (issued x))) e ∙ ap (λ u. Some (with_batches u (issued x))) p.0 in
     record {
+      begun = p.2;
+      counted = p.3;
       tree = p.0;
       told = p.1;
       shows = over;

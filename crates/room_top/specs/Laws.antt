@@ -1,5 +1,5 @@
 -- Runs, and what holds of each loaded client after any lines.
-use Rattle.std.specs.Prelude.{◌≡◌, ℕ, ◌-◌, List, [], ◌∷◌, ◌++◌, take, Some}
+use Rattle.std.specs.Prelude.{◌≡◌, ◌≤◌, ℕ, ◌+◌, ◌-◌, List, [], ◌∷◌, ◌++◌, length, take, Some}
 use Rattle.std.specs.Ordering.{nat_cmp}
 use Rattle.std.specs.FinMap.{FinMap, get}
 use Rattle.std.specs.Option.{unwrap_or}
@@ -50,9 +50,12 @@ tree_at s log n = tree_after s.tree (take (n - s.count) (updates_of log))
 abbrev pub last_at : State → List Entry → ℕ → ℕ → ℕ
 last_at s log n a = last_after a 0 (take (n - s.count) (updates_of log))
 
--- the confirmed tree t of a client is that of the log after the n updates that it took, and so is the clock that it was told.
--- So it shows that tree with its unacknowledged batches on top, and that tree alone where nothing is unacknowledged
+-- x.n is the number of an update of the log, or that of the opening state where it took none. The confirmed tree t of a client
+-- is that of the log after the update of this number, and so is the clock that it was told. So it shows that tree with its
+-- unacknowledged batches on top, and that tree alone where nothing is unacknowledged
 pub record Shows (s : State) (log : List Entry) (x : Account) (t : Nodes) : Type 0 where
+  pub begun : s.count ≤ x.n
+  pub counted : x.n ≤ s.count + length (updates_of log)
   pub tree : t ≡ tree_at s log x.n
   pub told : x.told ≡ last_at s log x.n x.actor
   pub shows : shown x ≡ Some (with_batches (tree_at s log x.n) (issued x))
