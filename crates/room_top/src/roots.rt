@@ -22,10 +22,10 @@ pub(crate) fn made<T: Tree>(alloc: Global, image: Image) -> Result<T, NoMemory>
 }
 
 /// Sets fields of the root, or leaves the tree as it is.
-
 pub(crate) fn change<T: Tree>(alloc: Global, tree: &mut T, change: &Change) -> Result<(), NoMemory>
     requires { IsBare (T.nodes tree.old) }
     ensures ok { OnOk result (T.nodes tree.new ≡ step (T.nodes tree.old) change.now) }
+    ensures err { OnErr result (T.nodes tree.new ≡ T.nodes tree.old) }
     ensures bare { IsBare (T.nodes tree.new) }
 {
     let mut fields = take_fields(alloc, tree);
@@ -52,7 +52,8 @@ fn put_fields<T: Tree>(tree: &mut T, fields: Members)
 }
 
 fn set_fields(alloc: Global, fields: &mut Members, change: &Change) -> Result<(), NoMemory>
-    ensures { OnOk result (tree_of fields.new ≡ step (tree_of fields.old) change.now) }
+    ensures ok { OnOk result (tree_of fields.new ≡ step (tree_of fields.old) change.now) }
+    ensures err { OnErr result (fields.new ≡ fields.old) }
 {
     merge(alloc, fields, &change.fields)
 }
