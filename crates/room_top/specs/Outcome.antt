@@ -1,6 +1,6 @@
 -- What the command makes of its input: a status, and what is written.
-use Rattle.std.specs.Io.KnownBytes.{Appends}
-use Rattle.std.specs.Prelude.{◌≡◌, ◌⊎◌, ℕ, Option, IfSome, nat_lt, nat_le, Bool, ◌||◌, ◌==◌, if◌then◌else◌, List, [], ◌∷◌, ◌++◌, length, map, codes, decimal, string_bytes, String}
+use Rattle.std.specs.Io.KnownBytes.{Appends, Consumes}
+use Rattle.std.specs.Prelude.{◌≡◌, ◌≤◌, ◌⊎◌, ℕ, Option, IfSome, nat_lt, nat_le, Bool, ◌||◌, ◌==◌, if◌then◌else◌, List, [], ◌∷◌, ◌++◌, length, map, codes, decimal, string_bytes, String}
 use Rattle.std.specs.Global.{Global}
 use Rattle.room_top.specs.Grammar.{Lines, Good, Bad, lines_in}
 use Rattle.room_top.specs.Report.{report}
@@ -42,6 +42,10 @@ IsOwn s = (s ≡ 1 → ⊥) × (s ≡ 4 → ⊥)
 -- the status and the text of the input, where it is known
 abbrev pub Answers : Option (List ℕ) → Option (List ℕ) → Option (List ℕ) → ℕ → Type 0
 Answers left old new status = IfSome left (λ input. (status ≡ (outcome_of input).status) × Appends old new (outcome_of input).text)
+
+-- of a source at most n bytes are taken, from the front of what was left of it
+abbrev pub TakesAtMost : ℕ → Option (List ℕ) → Option (List ℕ) → Type 0
+TakesAtMost n old new = (taken : List ℕ) × (length taken ≤ n) × Consumes old new taken
 
 -- what a run may answer
 abbrev pub is_status : ℕ → Bool

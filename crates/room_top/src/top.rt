@@ -1,7 +1,7 @@
 ghost use Rattle.std.specs.Prelude.{◌≡◌, true, ◌≤◌, ◌<◌, ℕ, List, take, length, IfOk, IfErr, IfSome, OnOk, OnErr, IsTrue, IsFalse, ◌↔◌, ◌⊎◌};
 ghost use Rattle.std.specs.Io.KnownBytes.{Consumes, IsAtEnd, Appends};
 ghost use Rattle.room_edge.specs.Causes.{Rose};
-ghost use Rattle.room_top.specs.Outcome.{outcome_of, usage, read_fault, IsReplay, IsSaid, IsText, IsOwn, Answers, is_status};
+ghost use Rattle.room_top.specs.Outcome.{outcome_of, usage, read_fault, IsReplay, IsSaid, IsText, IsOwn, Answers, TakesAtMost, is_status};
 
 use crate::reader::{Misread, read_lines};
 use crate::report::{add, add_number, report_of};
@@ -21,6 +21,8 @@ enum ReadFault {
 fn read_all<S: Source>(alloc: Global, source: &mut S) -> Result<Vec<u8>, ReadFault>
     ensures ok { IfOk result (λ v. Consumes (S.left source.old) (S.left source.new) v.items) }
     ensures end { IfOk result (λ v. length v.items ≤ 16777216 → IsAtEnd (S.left source.new)) }
+    ensures limit { IfOk result (λ v. length v.items ≤ 16777217) }
+    ensures takes { TakesAtMost 16777217 (S.left source.old) (S.left source.new) }
     ensures later { S.faults source.old ≤ S.faults source.new }
     ensures cause { IfErr result (λ e. e ≡ ReadFault.Failed → Rose (S.faults source.old) (S.faults source.new)) }
 {
@@ -31,11 +33,11 @@ fn read_all<S: Source>(alloc: Global, source: &mut S) -> Result<Vec<u8>, ReadFau
         let Ok(count) = source.read(&mut buffer[..room]) else {
             return Err(ReadFault::Failed);
         };
-        if count == 0 {
-            return Ok(bytes);
-        }
         if bytes.extend_from_slice(&buffer[..count]).is_err() {
             return Err(ReadFault::Memory);
+        }
+        if count == 0 {
+            return Ok(bytes);
         }
     }
     Ok(bytes)
@@ -114,6 +116,7 @@ fn replay<T: Tree, S: Source, K: Sink>(alloc: Global, source: &mut S, sink: &mut
     ensures known { is_status result ≡ true }
     ensures answers { (result ≡ 0) ⊎ (result ≡ 6) ⊎ (result ≡ 11) → Answers (S.left source.old) (K.written sink.old) (K.written sink.new) result }
     ensures end { (result ≡ 0) ⊎ (result ≡ 6) → IsAtEnd (S.left source.new) }
+    ensures limit { TakesAtMost 16777217 (S.left source.old) (S.left source.new) }
     ensures usage { result ≡ 2 → ⊥ }
     ensures read_fault { result ≡ 3 → Rose (S.faults source.old) (S.faults source.new) }
     ensures read_line { result ≡ 3 → Appends (K.written sink.old) (K.written sink.new) read_fault }
@@ -135,8 +138,11 @@ fn replay<T: Tree, S: Source, K: Sink>(alloc: Global, source: &mut S, sink: &mut
 /// The program: one command so far, `replay`, which reads a schedule, runs it in a new room, and writes the report.
 ///
 /// Answers 0 where that was done, 1 for want of memory, 2 for words that are no command, 3 for a source that failed,
-/// 4 for a sink that failed, 6 for a line that is bad, and 11 for an input of over 16,777,216 bytes. With 1 and 4 a
-/// first part of what was to be written may be written.
+/// 4 for a sink that failed, 6 for a line that is bad, and 11 for an input of over 16,777,216 bytes. With 2, 3, 6 and 11
+/// one line is written: the usage line, `read fault`, `bad line K` with the number of the first line that is bad, and
+/// `too long`; a failed write of it gives 4. With 1 and 4 a first part of what was to be written may be written.
+///
+/// Of the source at most 16,777,217 bytes are taken.
 pub fn run<T: Tree, S: Source, K: Sink>(
     alloc: Global,
     words: &[String],
@@ -147,6 +153,9 @@ pub fn run<T: Tree, S: Source, K: Sink>(
     // the status and the bytes written are those of the schedule that was read
     ensures answers { (result ≡ 0) ⊎ (result ≡ 6) ⊎ (result ≡ 11) → IsReplay words.now × Answers (S.left source.old) (K.written sink.old) (K.written sink.new) result }
     ensures end { (result ≡ 0) ⊎ (result ≡ 6) → IsAtEnd (S.left source.new) }
+    // whatever the status, no more is read than tells that an input is too long, and nothing where the words are no command
+    ensures limit { TakesAtMost 16777217 (S.left source.old) (S.left source.new) }
+    ensures unread { (IsReplay words.now → ⊥) → source.new ≡ source.old }
     ensures usage { result ≡ 2 → (IsReplay words.now → ⊥) × Appends (K.written sink.old) (K.written sink.new) usage }
     ensures words { (IsReplay words.now → ⊥) → (result ≡ 2) ⊎ (result ≡ 1) ⊎ (result ≡ 4) }
     ensures read_fault { result ≡ 3 → Rose (S.faults source.old) (S.faults source.new) }
