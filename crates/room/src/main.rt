@@ -12,13 +12,17 @@ use std::{env, io};
 fn main(rt: HostRuntime) -> ExitCode {
     let alloc = rt.alloc();
     let mut words = Vec::new(alloc);
-    // words that are not UTF-8 are no command
-    if let Ok(args) = env::args(&rt) {
-        for word in args.skip(1) {
-            if words.push(word).is_err() {
-                return ExitCode::from(1);
+    match env::args(&rt) {
+        Ok(args) => {
+            for word in args.skip(1) {
+                if words.push(word).is_err() {
+                    return ExitCode::from(1);
+                }
             }
         }
+        Err(fault) if fault.kind() == io::ErrorKind::OutOfMemory => return ExitCode::from(1),
+        // words that are not UTF-8 are no command
+        Err(_) => {}
     }
     let mut source = Reading::new(rt.reader());
     let mut sink = Writing::new(io::writer(&rt));

@@ -1,4 +1,7 @@
-ghost use Rattle.std.specs.Prelude.{◌≡◌};
+ghost use Rattle.std.specs.Prelude.{◌≡◌, ◌<◌, ◌≤◌, ◌+◌, ◌-◌, ◌^◌, length, min, IfOk, IfErr, OnOk, OnErr};
+ghost use Rattle.std.specs.Io.{ReadsAtMost, WritesAtMost};
+ghost use Rattle.std.specs.Io.KnownBytes.{ReadConsumes, WriteAppends};
+ghost use Rattle.room_edge.specs.Causes.{HasCause, Rose};
 
 use room_edge::{Failed, Sink, SinkFault, Source};
 use std::io::{Read, Write};
@@ -11,6 +14,7 @@ pub struct Reading<R> {
 }
 
 impl<R: Read> Reading<R> {
+    /// A source over a reader, with no fault yet.
     pub fn new(inner: R) -> Reading<R>
         ensures { result.faults ≡ 0 }
     {
@@ -23,7 +27,14 @@ impl<R: Read> Source for Reading<R> {
 
     ghost faults = { λ s. s.faults };
 
-    fn read(&mut self, into: &mut [u8]) -> Result<usize, Failed> {
+    fn read(&mut self, into: &mut [u8]) -> Result<usize, Failed>
+        requires { 0 < length into.old }
+        ensures bound { ReadsAtMost result into.new }
+        ensures bytes { ReadConsumes (R.remaining self.old.inner) (R.remaining self.new.inner) result into.new }
+        ensures cause { HasCause self.old.faults self.new.faults result }
+        ensures same { OnOk result (self.new.faults ≡ self.old.faults) }
+        ensures counted { OnErr result (self.new.faults ≡ min (self.old.faults + 1) (2 ^ 64 - 1)) }
+    {
         match self.inner.read(into) {
             Ok(count) => Ok(count),
             Err(_) => {
@@ -42,6 +53,7 @@ pub struct Writing<W> {
 }
 
 impl<W: Write> Writing<W> {
+    /// A sink over a writer, with no fault yet.
     pub fn new(inner: W) -> Writing<W>
         ensures { result.faults ≡ 0 }
     {
@@ -54,7 +66,16 @@ impl<W: Write> Sink for Writing<W> {
 
     ghost faults = { λ s. s.faults };
 
-    fn write(&mut self, piece: &[u8]) -> Result<usize, SinkFault> {
+    fn write(&mut self, piece: &[u8]) -> Result<usize, SinkFault>
+        requires { 0 < length piece.now }
+        ensures bound { WritesAtMost result piece.now }
+        ensures some { IfOk result (λ n. 0 < n) }
+        ensures bytes { WriteAppends (W.contents self.old.inner) (W.contents self.new.inner) result piece.now }
+        ensures later { self.old.faults ≤ self.new.faults }
+        ensures cause { IfErr result (λ e. e ≡ SinkFault.Failed → Rose self.old.faults self.new.faults) }
+        ensures same { OnOk result (self.new.faults ≡ self.old.faults) }
+        ensures counted { OnErr result (self.new.faults ≡ min (self.old.faults + 1) (2 ^ 64 - 1)) }
+    {
         match self.inner.write(piece) {
             Ok(count) if count > 0 => Ok(count),
             _ => {
