@@ -72,6 +72,7 @@ impl<W: Write> Sink for Writing<W> {
         ensures some { IfOk result (λ n. 0 < n) }
         ensures bytes { WriteAppends (W.contents self.old.inner) (W.contents self.new.inner) result piece.now }
         ensures later { self.old.faults ≤ self.new.faults }
+        ensures only { IfErr result (λ e. e ≡ SinkFault.Failed) }
         ensures cause { IfErr result (λ e. e ≡ SinkFault.Failed → Rose self.old.faults self.new.faults) }
         ensures same { OnOk result (self.new.faults ≡ self.old.faults) }
         ensures counted { OnErr result (self.new.faults ≡ min (self.old.faults + 1) (2 ^ 64 - 1)) }

@@ -4,7 +4,7 @@ use Rattle.std.proofs.lemmas.Bool.{cases_lt}
 use Rattle.room_nodes.specs.Shape.{Nodes as Tree}
 use Rattle.room_nodes.specs.declared.nodes.Body.{Body}
 use Rattle.room_top.specs.Log.{State, Update, tree_after}
-use Rattle.room_top.specs.Account.{Account, issued, ends, frame_of, edit, edit_at, is_synced, dialled, flushed, unsent}
+use Rattle.room_top.specs.Account.{Account, issued, ends, frame_of, edit, edit_at, edit_issues, next_batch, is_synced, dialled, flushed, unsent}
 use Rattle.room_top.specs.Messages.{Batch}
 use Rattle.room_top.specs.declared.messages.Stage.{Stage}
 use Rattle.room_top.specs.declared.messages.Stage.TheVariants.{Idle, Dialled, Connected, Synced}
@@ -20,19 +20,18 @@ use Rattle.room_top.proofs.Holds.{Holds, ShowsAt, Fresh}
 true_false : true ≡ false → ⊥
 true_false e = cc
 
-module _ (s : State) (us : List Update) (last : ℕ) (x : Account) (q : Queues) (k : Link) where
-  holds_edit_some : (b : Body) (bs : List Body) (t : Tree) → x.confirmed ≡ Some t → Holds s us last x q k
-      → Holds s us last (record x { fresh = x.fresh ++ record { first = ends x.told (issued x) + 1; bodies = b ∷ bs } ∷ [] }) q k
+module _ (s : State) (us : List Update) (last : ℕ) (all : List Batch) (x : Account) (q : Queues) (k : Link) where
+  holds_edit_some : (b : Body) (bs : List Body) (t : Tree) → x.confirmed ≡ Some t → Holds s us last all x q k
+      → Holds s us last (all ++ next_batch x (b ∷ bs) ∷ []) (record x { fresh = x.fresh ++ next_batch x (b ∷ bs) ∷ [] }) q k
   holds_edit_some b bs t loaded h =
-      let new : Batch = record { first = ends x.told (issued x) + 1; bodies = b ∷ bs } in
+      let new : Batch = next_batch x (b ∷ bs) in
       let more : x.sent ++ (x.fresh ++ new ∷ []) ≡ issued x ++ new ∷ [] = sym (append_assoc x.sent x.fresh (new ∷ [])) in
-      let l = left k.actor s.tree 0 h.done h.all (issued x) x.told h.ledger.chain h.ledger.took in
-      let e : ends x.told (issued x) ≡ upto 0 h.all = ends_upto x.told (issued x) l.chain ∙ l.end in
+      let l = left k.actor s.tree 0 h.done all (issued x) x.told h.ledger.chain h.ledger.took in
+      let e : ends x.told (issued x) ≡ upto 0 all = ends_upto x.told (issued x) l.chain ∙ l.end in
       let shown : ShowsAt s h.done k.actor x (Some t) = rw loaded at h.shows in
       record {
         done = h.done;
         coming = h.coming;
-        all = h.all ++ new ∷ [];
         whole = h.whole;
         shows = rw loaded (record { stage = shown.stage; actor = shown.actor; tree = shown.tree; n = shown.n });
         named = h.named;
@@ -41,34 +40,34 @@ module _ (s : State) (us : List Update) (last : ℕ) (x : Account) (q : Queues) 
           rest = h.ledger.rest ++ new ∷ [];
           all_is = ap (λ ds. ds ++ new ∷ []) h.ledger.all_is ∙ append_assoc h.ledger.accepted h.ledger.rest (new ∷ []);
           last_is = h.ledger.last_is;
-          chain = Chain-append 0 h.all (new ∷ []) h.ledger.chain (record { first = ap (λ c. c + 1) e; some = omega arith; more = record {} });
-          took = rw more (Matches-issue k.actor s.tree 0 h.done h.all (issued x) (new ∷ []) x.told h.ledger.took);
+          chain = Chain-append 0 all (new ∷ []) h.ledger.chain (record { first = ap (λ c. c + 1) e; some = omega arith; more = record {} });
+          took = rw more (Matches-issue k.actor s.tree 0 h.done all (issued x) (new ∷ []) x.told h.ledger.took);
           takes = rw more (Matches-issue k.actor (tree_after s.tree h.done) x.told h.coming (issued x) h.ledger.rest (new ∷ []) last h.ledger.takes);
         };
         down = h.down;
         unjoined = λ z. record { down = (h.unjoined z).down; unloaded = (h.unjoined z).unloaded; unfetched = (h.unjoined z).unfetched; fresh = (h.unjoined z).fresh };
-        up = record { reach = h.up.reach; order = InOrder-issue k.actor h.all last q.up h.up.reach (new ∷ []) h.up.order; sent = h.up.sent };
+        up = record { reach = h.up.reach; order = InOrder-issue k.actor all last q.up h.up.reach (new ∷ []) h.up.order; sent = h.up.sent };
       }
 
-  holds_edit_at : (bodies : List Body) (o : Option Tree) → x.confirmed ≡ o → Holds s us last x q k → Holds s us last (edit_at x bodies o) q k
-  holds_edit_at bodies None e h = h
-  holds_edit_at [] (Some t) e h = h
+  holds_edit_at : (bodies : List Body) (o : Option Tree) → x.confirmed ≡ o → Holds s us last all x q k → Holds s us last (all ++ edit_issues x bodies o) (edit_at x bodies o) q k
+  holds_edit_at bodies None e h = rw (append-nil all) h
+  holds_edit_at [] (Some t) e h = rw (append-nil all) h
   holds_edit_at (b ∷ bs) (Some t) e h = holds_edit_some b bs t e h
 
-  pub holds_edit : (bodies : List Body) → Holds s us last x q k → Holds s us last (edit x bodies) q k
+  pub holds_edit : (bodies : List Body) → Holds s us last all x q k → Holds s us last (all ++ edit_issues x bodies x.confirmed) (edit x bodies) q k
   holds_edit bodies h = holds_edit_at bodies x.confirmed refl h
 
   -- a dial, from idle
-  idle_unjoined : x.stage ≡ Idle → Holds s us last x q k → k.actor ≡ 0
+  idle_unjoined : x.stage ≡ Idle → Holds s us last all x q k → k.actor ≡ 0
   idle_unjoined e h = ⊎_elim (λ p. absurd (idle_stays s k.actor x.stage h.done h.coming q.down h.down.stage h.down.seen h.down.unseen h.down.waits e (h.down.joined p))) (λ z. omega arith) (cases_lt 0 k.actor)
 
-  pub told_left : (h : Holds s us last x q k) → Left 0 x.told h.all (issued x)
-  told_left h = left k.actor s.tree 0 h.done h.all (issued x) x.told h.ledger.chain h.ledger.took
+  pub told_left : (h : Holds s us last all x q k) → Left 0 x.told all (issued x)
+  told_left h = left k.actor s.tree 0 h.done all (issued x) x.told h.ledger.chain h.ledger.took
 
-  pub last_left : (h : Holds s us last x q k) → Left x.told last (issued x) h.ledger.rest
+  pub last_left : (h : Holds s us last all x q k) → Left x.told last (issued x) h.ledger.rest
   last_left h = left k.actor (tree_after s.tree h.done) x.told h.coming (issued x) h.ledger.rest last (told_left h).chain h.ledger.takes
 
-  unloaded : (o : Option Tree) → x.confirmed ≡ o → x.stage ≡ Idle → Holds s us last x q k → Holds s us last (dialled x) (record { up = q.up ++ Hello ∷ []; down = q.down }) k
+  unloaded : (o : Option Tree) → x.confirmed ≡ o → x.stage ≡ Idle → Holds s us last all x q k → Holds s us last all (dialled x) (record { up = q.up ++ Hello ∷ []; down = q.down }) k
   unloaded None o e h =
       let z = idle_unjoined e h in
       let bare = h.unjoined z in
@@ -77,7 +76,6 @@ module _ (s : State) (us : List Update) (last : ℕ) (x : Account) (q : Queues) 
       record {
         done = h.done;
         coming = h.coming;
-        all = h.all;
         whole = h.whole;
         shows = rw o (record { unsynced = λ f. cc; none = shown.none; nothing = shown.nothing; n = shown.n });
         named = λ i. absurd i;
@@ -101,33 +99,32 @@ module _ (s : State) (us : List Update) (last : ℕ) (x : Account) (q : Queues) 
       let shown : ShowsAt s h.done k.actor x (Some t) = rw o at h.shows in
       absurd (idle_synced (sym e ∙ shown.stage))
 
-  pub holds_dial : x.stage ≡ Idle → Holds s us last x q k → Holds s us last (dialled x) (record { up = q.up ++ Hello ∷ []; down = q.down }) k
+  pub holds_dial : x.stage ≡ Idle → Holds s us last all x q k → Holds s us last all (dialled x) (record { up = q.up ++ Hello ∷ []; down = q.down }) k
   holds_dial e h = unloaded x.confirmed refl e h
 
   shows_flushed : (done : List Update) (o : Option Tree) → x.stage ≡ Synced → ShowsAt s done k.actor x o → ShowsAt s done k.actor (record x { sent = issued x; fresh = [] }) o
   shows_flushed done None e h = absurd (h.unsynced e)
   shows_flushed done (Some t) e h = record { stage = h.stage; actor = h.actor; tree = h.tree; n = h.n }
 
-  flush_frames : (h : Holds s us last x q k) → InOrder k.actor h.all h.up.reach (map (frame_of k.actor) x.fresh) (max h.up.reach (upto x.told (issued x)))
+  flush_frames : (h : Holds s us last all x q k) → InOrder k.actor all h.up.reach (map (frame_of k.actor) x.fresh) (max h.up.reach (upto x.told (issued x)))
   flush_frames h =
       let l = told_left h in
       let c = Chain-back x.told x.sent x.fresh l.chain in
-      let parts : h.all ≡ (l.front ++ x.sent) ++ x.fresh = l.parts ∙ sym (append_assoc l.front x.sent x.fresh) in
+      let parts : all ≡ (l.front ++ x.sent) ++ x.fresh = l.parts ∙ sym (append_assoc l.front x.sent x.fresh) in
       rw (parts, upto-append x.told x.sent x.fresh) (frames k.actor (l.front ++ x.sent) x.fresh (upto x.told x.sent) h.up.reach c h.up.sent)
 
   -- a flush
-  flush_at : (g : Stage) → x.stage ≡ g → Holds s us last x q k
-      → Holds s us last (cond (is_synced g) (record x { sent = issued x; fresh = [] }) x) (record { up = q.up ++ cond (is_synced g) (map (frame_of x.actor) x.fresh) []; down = q.down }) k
+  flush_at : (g : Stage) → x.stage ≡ g → Holds s us last all x q k
+      → Holds s us last all (cond (is_synced g) (record x { sent = issued x; fresh = [] }) x) (record { up = q.up ++ cond (is_synced g) (map (frame_of x.actor) x.fresh) []; down = q.down }) k
   flush_at Idle e h = rw (append-nil q.up) h
   flush_at Dialled e h = rw (append-nil q.up) h
   flush_at Connected e h = rw (append-nil q.up) h
   flush_at Synced e h =
-      let l = left k.actor s.tree 0 h.done h.all (issued x) x.told h.ledger.chain h.ledger.took in
+      let l = left k.actor s.tree 0 h.done all (issued x) x.told h.ledger.chain h.ledger.took in
       let same : issued x ++ [] ≡ issued x = append-nil (issued x) in
       record {
         done = h.done;
         coming = h.coming;
-        all = h.all;
         whole = h.whole;
         shows = shows_flushed h.done x.confirmed e h.shows;
         named = h.named;
@@ -136,17 +133,17 @@ module _ (s : State) (us : List Update) (last : ℕ) (x : Account) (q : Queues) 
         unjoined = λ z. record { down = (h.unjoined z).down; unloaded = (h.unjoined z).unloaded; unfetched = (h.unjoined z).unfetched; fresh = absurd (subst (λ g. Fresh g q.up) e (h.unjoined z).fresh) };
         up = record {
           reach = max h.up.reach (upto x.told (issued x));
-          order = InOrder-append k.actor h.all last q.up (map (frame_of x.actor) x.fresh) h.up.reach (max h.up.reach (upto x.told (issued x))) h.up.order
+          order = InOrder-append k.actor all last q.up (map (frame_of x.actor) x.fresh) h.up.reach (max h.up.reach (upto x.told (issued x))) h.up.order
               (rw (h.named (subst IsOn (sym e) tt)) (flush_frames h));
           sent = omega arith;
         };
       }
 
-  pub holds_flush : Holds s us last x q k → Holds s us last (flushed x) (record { up = q.up ++ unsent x; down = q.down }) k
+  pub holds_flush : Holds s us last all x q k → Holds s us last all (flushed x) (record { up = q.up ++ unsent x; down = q.down }) k
   holds_flush h = flush_at x.stage refl h
 
   -- an idle client without a tree has a bare connection
-  bare_idle : x.stage ≡ Idle → Holds s us last x q k → (k ≡ no_link) × (q ≡ record { up = []; down = [] })
+  bare_idle : x.stage ≡ Idle → Holds s us last all x q k → (k ≡ no_link) × (q ≡ record { up = []; down = [] })
   bare_idle e h =
       let z = idle_unjoined e h in
       let bare = h.unjoined z in
@@ -159,8 +156,8 @@ module _ (s : State) (us : List Update) (last : ℕ) (x : Account) (q : Queues) 
       same_queues : q.up ≡ [] → q.down ≡ [] → q ≡ record { up = []; down = [] }
       same_queues a f = λ i. record { up = a i; down = f i }
 
-  pub link_idle : x.stage ≡ Idle → Holds s us last x q k → k ≡ no_link
+  pub link_idle : x.stage ≡ Idle → Holds s us last all x q k → k ≡ no_link
   link_idle e h = (bare_idle e h).0
 
-  pub called_is : x.stage ≡ Idle → Holds s us last x q k → ◌≡◌ {A = Queues} (record { up = q.up ++ Hello ∷ []; down = q.down }) (record { up = Hello ∷ []; down = [] })
+  pub called_is : x.stage ≡ Idle → Holds s us last all x q k → ◌≡◌ {A = Queues} (record { up = q.up ++ Hello ∷ []; down = q.down }) (record { up = Hello ∷ []; down = [] })
   called_is e h = ap (λ (p : Queues). record { up = p.up ++ Hello ∷ []; down = p.down }) (bare_idle e h).1

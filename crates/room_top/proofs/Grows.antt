@@ -61,14 +61,13 @@ grow_bare x q k up seq u f b = record {
   fresh = f;
 }
 
-module _ (s : State) (us : List Update) (last : ℕ) (x : Account) (q : Queues) (k : Link) (u : Update) where
+module _ (s : State) (us : List Update) (last : ℕ) (all : List Batch) (x : Account) (q : Queues) (k : Link) (u : Update) where
   -- an update of another actor
-  pub holds_other : (u.actor ≡ k.actor → ⊥) → Holds s us last x q k
-      → Holds s (us ++ u ∷ []) last x (record { up = q.up; down = q.down ++ news (s.count + length us + 1) u k.fetched }) k
+  pub holds_other : (u.actor ≡ k.actor → ⊥) → Holds s us last all x q k
+      → Holds s (us ++ u ∷ []) last all x (record { up = q.up; down = q.down ++ news (s.count + length us + 1) u k.fetched }) k
   holds_other apart h = record {
     done = h.done;
     coming = h.coming ++ u ∷ [];
-    all = h.all;
     whole = ap (λ vs. vs ++ u ∷ []) h.whole ∙ append_assoc h.done h.coming (u ∷ []);
     shows = h.shows;
     named = h.named;
@@ -89,9 +88,9 @@ module _ (s : State) (us : List Update) (last : ℕ) (x : Account) (q : Queues) 
 
   -- the next batch of this one
   pub holds_own : (b : Batch) (ms : List Up) → 0 < k.actor → u.actor ≡ k.actor → u.first ≡ b.first → u.bodies ≡ b.bodies
-      → (h : Holds s us last x q k) → (more : List Batch) → h.ledger.rest ≡ b ∷ more
-      → (reach : ℕ) → InOrder k.actor h.all (max last (last_clock b)) ms reach → upto x.told x.sent ≤ reach
-      → Holds s (us ++ u ∷ []) (u.first + length u.bodies - 1) x (record { up = ms; down = q.down ++ news (s.count + length us + 1) u k.fetched }) k
+      → (h : Holds s us last all x q k) → (more : List Batch) → h.ledger.rest ≡ b ∷ more
+      → (reach : ℕ) → InOrder k.actor all (max last (last_clock b)) ms reach → upto x.told x.sent ≤ reach
+      → Holds s (us ++ u ∷ []) (u.first + length u.bodies - 1) all x (record { up = ms; down = q.down ++ news (s.count + length us + 1) u k.fetched }) k
   holds_own b ms some own first bodies h more next reach order sent =
       let c : Chain last (b ∷ more) =
       subst (λ (bs : List Batch). Chain last bs) next (subst (λ i. Chain i h.ledger.rest) h.ledger.last_is
@@ -102,7 +101,6 @@ module _ (s : State) (us : List Update) (last : ℕ) (x : Account) (q : Queues) 
       rw to (record {
         done = h.done;
         coming = h.coming ++ u ∷ [];
-        all = h.all;
         whole = ap (λ vs. vs ++ u ∷ []) h.whole ∙ append_assoc h.done h.coming (u ∷ []);
         shows = h.shows;
         named = h.named;

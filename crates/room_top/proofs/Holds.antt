@@ -57,12 +57,12 @@ pub record Bare (x : Account) (q : Queues) (k : Link) : Type 0 where
   pub unfetched : k.fetched ≡ false
   pub fresh : Fresh x.stage q.up
 
--- s is the opening state, us are the updates since and last is the last clock of the link's session
-pub record Holds (s : State) (us : List Update) (last : ℕ) (x : Account) (q : Queues) (k : Link) : Type 0 where
-  -- the updates that it took, the others, and the batches that it ever issued
+-- s is the opening state, us are the updates since, last is the last clock of the link's session and all are the batches that
+-- the client ever issued
+pub record Holds (s : State) (us : List Update) (last : ℕ) (all : List Batch) (x : Account) (q : Queues) (k : Link) : Type 0 where
+  -- the updates that it took, and the others
   pub done : List Update
   pub coming : List Update
-  pub all : List Batch
   pub whole : us ≡ done ++ coming
   pub shows : ShowsAt s done k.actor x x.confirmed
   pub named : IsOn x.stage → x.actor ≡ k.actor
@@ -82,4 +82,4 @@ pub record Stands (s : State) (r : Run) : Type 0 where
   pub within : Within (length r.world.server.state.sessions) (updates_of r.log)
   pub links : (c : ℕ) → (at no_link r.world.server.links c).actor ≤ length r.world.server.state.sessions
   pub apart : (c d : ℕ) → 0 < (at no_link r.world.server.links c).actor → (at no_link r.world.server.links c).actor ≡ (at no_link r.world.server.links d).actor → c ≡ d
-  pub each : (c : ℕ) → Holds s (updates_of r.log) (last_of r.world.server.state.sessions (at no_link r.world.server.links c).actor) (account r.world c) (queue r.world c) (at no_link r.world.server.links c)
+  pub each : (c : ℕ) → Holds s (updates_of r.log) (last_of r.world.server.state.sessions (at no_link r.world.server.links c).actor) (r.issued c) (account r.world c) (queue r.world c) (at no_link r.world.server.links c)

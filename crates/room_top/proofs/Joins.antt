@@ -48,10 +48,10 @@ frames_none a c d e (Hello ∷ q) h = frames_none a c d e q h
 frames_none a c d e (Fetch ∷ q) h = frames_none a c d e q h
 frames_none a c d e (Ops os ∷ q) h = absurd h.issued
 
-module _ (s : State) (us : List Update) (last : ℕ) (x : Account) (q : Queues) (k : Link) where
+module _ (s : State) (us : List Update) (last : ℕ) (all : List Batch) (x : Account) (q : Queues) (k : Link) where
   -- a hello makes a session with the next number
-  join_at : (g : Stage) (o : Option Tree) (n : ℕ) (key : ℕ) (ms : List Up) → x.stage ≡ g → x.confirmed ≡ o → Within n us → k.actor ≡ 0 → q.up ≡ Hello ∷ ms → Holds s us last x q k
-      → Holds s us 0 x (record { up = ms; down = q.down ++ Room (n + 1) key ∷ [] }) (record { actor = n + 1; fetched = false })
+  join_at : (g : Stage) (o : Option Tree) (n : ℕ) (key : ℕ) (ms : List Up) → x.stage ≡ g → x.confirmed ≡ o → Within n us → k.actor ≡ 0 → q.up ≡ Hello ∷ ms → Holds s us last all x q k
+      → Holds s us 0 all x (record { up = ms; down = q.down ++ Room (n + 1) key ∷ [] }) (record { actor = n + 1; fetched = false })
   join_at g (Some t) n key ms e o w z f h = absurd (some_none (sym o ∙ (h.unjoined z).unloaded))
     where
       some_none : Some t ≡ None → ⊥
@@ -64,15 +64,14 @@ module _ (s : State) (us : List Update) (last : ℕ) (x : Account) (q : Queues) 
   join_at Synced None n key ms e o w z f h = absurd (subst (λ (g : Stage). Fresh g q.up) e (h.unjoined z).fresh)
   join_at Dialled None n key ms e o w z f h =
       let shown : ShowsAt s h.done k.actor x None = rw o at h.shows in
-      let took : Matches k.actor s.tree 0 [] h.all (issued x) x.told = subst (λ (vs : List Update). Matches k.actor s.tree 0 vs h.all (issued x) x.told) shown.none h.ledger.took in
-      let nothing : h.all ≡ [] = took.same ∙ shown.nothing in
+      let took : Matches k.actor s.tree 0 [] all (issued x) x.told = subst (λ (vs : List Update). Matches k.actor s.tree 0 vs all (issued x) x.told) shown.none h.ledger.took in
+      let nothing : all ≡ [] = took.same ∙ shown.nothing in
       let told : x.told ≡ 0 = sym took.clock in
       let tried : x.sent ≡ [] = front_none x.sent x.fresh shown.nothing in
       let all_coming : us ≡ h.coming = h.whole ∙ ap (λ vs. vs ++ h.coming) shown.none in
-      record {
+      rw nothing (record {
         done = [];
         coming = us;
-        all = [];
         whole = refl;
         shows = rw o (record { unsynced = λ i. dialled_synced (sym e ∙ i); none = refl; nothing = shown.nothing; n = shown.n });
         named = λ i. absurd (subst IsOn e i);
@@ -94,26 +93,25 @@ module _ (s : State) (us : List Update) (last : ℕ) (x : Account) (q : Queues) 
           joined = λ i. tt;
         };
         unjoined = λ i. absurd (omega arith);
-        up = record { reach = 0; order = frames_none (n + 1) last 0 h.up.reach ms (no_frames k.actor (n + 1) last h.up.reach h.all ms nothing (subst (λ (us : List Up). InOrder k.actor h.all last us h.up.reach) f h.up.order)); sent = rw (tried, told) (omega arith) };
-      }
+        up = record { reach = 0; order = frames_none (n + 1) last 0 h.up.reach ms (no_frames k.actor (n + 1) last h.up.reach all ms nothing (subst (λ (us : List Up). InOrder k.actor all last us h.up.reach) f h.up.order)); sent = rw (tried, told) (omega arith) };
+      })
 
-  pub holds_join : (n key : ℕ) (ms : List Up) → Within n us → k.actor ≡ 0 → q.up ≡ Hello ∷ ms → Holds s us last x q k
-      → Holds s us 0 x (record { up = ms; down = q.down ++ Room (n + 1) key ∷ [] }) (record { actor = n + 1; fetched = false })
+  pub holds_join : (n key : ℕ) (ms : List Up) → Within n us → k.actor ≡ 0 → q.up ≡ Hello ∷ ms → Holds s us last all x q k
+      → Holds s us 0 all x (record { up = ms; down = q.down ++ Room (n + 1) key ∷ [] }) (record { actor = n + 1; fetched = false })
   holds_join n key ms w z f h = join_at x.stage x.confirmed n key ms refl refl w z f h
 
   -- a fetch is answered by the state
-  pub holds_fetch : (a seq : ℕ) (t : Tree) (ms : List Up) → k.actor ≡ a → 0 < a → seq ≡ s.count + length us → t ≡ tree_after s.tree us → q.up ≡ Fetch ∷ ms → Holds s us last x q k
-      → Holds s us last x (record { up = ms; down = q.down ++ Whole seq last t ∷ [] }) (record { actor = a; fetched = true })
+  pub holds_fetch : (a seq : ℕ) (t : Tree) (ms : List Up) → k.actor ≡ a → 0 < a → seq ≡ s.count + length us → t ≡ tree_after s.tree us → q.up ≡ Fetch ∷ ms → Holds s us last all x q k
+      → Holds s us last all x (record { up = ms; down = q.down ++ Whole seq last t ∷ [] }) (record { actor = a; fetched = true })
   holds_fetch a seq t ms actor some count tree f h =
       let d = h.down in
       let whole : us ≡ d.seen ++ d.unseen = h.whole ∙ Waits-whole s k.actor x.stage h.done h.coming q.down d.stage d.seen d.unseen d.waits in
-      let total : Matches k.actor s.tree 0 us h.all h.ledger.rest last =
-      rw h.whole (Matches-append k.actor s.tree 0 h.done h.coming h.all (issued x) h.ledger.rest x.told last h.ledger.took h.ledger.takes) in
-      let told : last_after k.actor 0 us ≡ last = last_after_is k.actor s.tree 0 us h.all h.ledger.rest last h.ledger.chain total in
+      let total : Matches k.actor s.tree 0 us all h.ledger.rest last =
+      rw h.whole (Matches-append k.actor s.tree 0 h.done h.coming all (issued x) h.ledger.rest x.told last h.ledger.took h.ledger.takes) in
+      let told : last_after k.actor 0 us ≡ last = last_after_is k.actor s.tree 0 us all h.ledger.rest last h.ledger.chain total in
       rw (← actor) (record {
         done = h.done;
         coming = h.coming;
-        all = h.all;
         whole = h.whole;
         shows = h.shows;
         named = h.named;
@@ -128,13 +126,13 @@ module _ (s : State) (us : List Update) (last : ℕ) (x : Account) (q : Queues) 
           joined = λ i. tt;
         };
         unjoined = λ z. absurd (omega arith);
-        up = record { reach = h.up.reach; order = subst (λ (us : List Up). InOrder k.actor h.all last us h.up.reach) f h.up.order; sent = h.up.sent };
+        up = record { reach = h.up.reach; order = subst (λ (us : List Up). InOrder k.actor all last us h.up.reach) f h.up.order; sent = h.up.sent };
       })
 
-  bare_at : (o : Option Tree) → x.confirmed ≡ o → o ≡ None → (h : Holds s us last x q k) → h.all ≡ []
+  bare_at : (o : Option Tree) → x.confirmed ≡ o → o ≡ None → (h : Holds s us last all x q k) → all ≡ []
   bare_at None o i h =
       let shown : ShowsAt s h.done k.actor x None = rw o at h.shows in
-      let took : Matches k.actor s.tree 0 [] h.all (issued x) x.told = subst (λ (vs : List Update). Matches k.actor s.tree 0 vs h.all (issued x) x.told) shown.none h.ledger.took in
+      let took : Matches k.actor s.tree 0 [] all (issued x) x.told = subst (λ (vs : List Update). Matches k.actor s.tree 0 vs all (issued x) x.told) shown.none h.ledger.took in
       took.same ∙ shown.nothing
   bare_at (Some t) o i h = absurd (some_none i)
     where
@@ -142,5 +140,5 @@ module _ (s : State) (us : List Update) (last : ℕ) (x : Account) (q : Queues) 
       some_none j = cc
 
   -- without a session nothing was issued
-  pub nothing_issued : k.actor ≡ 0 → (h : Holds s us last x q k) → h.all ≡ []
+  pub nothing_issued : k.actor ≡ 0 → (h : Holds s us last all x q k) → all ≡ []
   nothing_issued z h = bare_at x.confirmed refl (h.unjoined z).unloaded h

@@ -1,11 +1,12 @@
 -- The batches of an actor against the updates of the log.
-use Rattle.std.proofs.Common.{◌≡◌, ℕ, ◌+◌, ◌-◌, ◌≤◌, ◌⊎◌, inl, inr, List, [], ◌∷◌, ◌++◌, length, refl, ap, ◌∙◌, subst, arith}
+use Rattle.std.proofs.Common.{◌≡◌, ℕ, ◌+◌, ◌-◌, ◌≤◌, ◌⊎◌, inl, inr, cond, List, [], ◌∷◌, ◌++◌, length, refl, sym, ap, ◌∙◌, subst, arith}
 use Rattle.std.proofs.lemmas.Bool.{eq-eqb, ne_eqb}
 use Rattle.room_nodes.specs.Shape.{Nodes as Tree}
 use Rattle.room_nodes.specs.Steps.{fold}
 use Rattle.room_top.specs.Log.{Update, tree_after, last_after}
 use Rattle.room_top.specs.Messages.{Batch}
 use Rattle.room_top.specs.Account.{beyond}
+use Rattle.room_top.specs.Laws.{batches_of}
 use Rattle.room_top.proofs.Batches.{Chain, upto, beyond_none, beyond_one}
 
 -- From the tree t and the clock c, the updates take the batches bs one after another, up to the clock e; rest is what they leave.
@@ -119,3 +120,17 @@ last_after_is a t c (u ∷ us) bs rest e h (inl m) =
     rw (eq-eqb u.actor a m.own) (rw g (last_after_is a (fold t u.bodies) (c + length u.bodies) us m.others rest e (rw n k.more) m.more))
 last_after_is a t c (u ∷ us) bs rest e h (inr m) =
     rw (ne_eqb u.actor a m.other) (last_after_is a (fold t u.bodies) c us bs rest e h m.more)
+
+same_batch : (b : Batch) (u : Update) → u.first ≡ b.first → u.bodies ≡ b.bodies → b ≡ record { first = u.first; bodies = u.bodies }
+same_batch b u f e = λ i. record { first = sym f i; bodies = sym e i }
+
+-- the batches are the updates of the actor, and what they leave
+pub batches_are : (a : ℕ) (t : Tree) (c : ℕ) (us : List Update) (bs rest : List Batch) (e : ℕ) → Matches a t c us bs rest e → bs ≡ batches_of a us ++ rest
+batches_are a t c [] bs rest e m = m.same
+batches_are a t c (u ∷ us) bs rest e (inl m) =
+    m.front ∙ ap (λ b. b ∷ m.others) (same_batch m.batch u m.first m.bodies)
+    ∙ ap (λ ds. record { first = u.first; bodies = u.bodies } ∷ ds) (batches_are a (fold t u.bodies) (c + length u.bodies) us m.others rest e m.more)
+    ∙ ap (λ b. cond b (record { first = u.first; bodies = u.bodies } ∷ batches_of a us) (batches_of a us) ++ rest) (sym (eq-eqb u.actor a m.own))
+batches_are a t c (u ∷ us) bs rest e (inr m) =
+    batches_are a (fold t u.bodies) c us bs rest e m.more
+    ∙ ap (λ b. cond b (record { first = u.first; bodies = u.bodies } ∷ batches_of a us) (batches_of a us) ++ rest) (sym (ne_eqb u.actor a m.other))

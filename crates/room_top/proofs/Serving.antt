@@ -39,12 +39,11 @@ fresh_tail Connected m ms f = f
 fresh_tail Synced m ms f = f
 
 -- the frame goes, and nothing comes of it
-holds_drop : (s : State) (us : List Update) (last : ℕ) (x : Account) (q : Queues) (k : Link) (m : Up) (ms : List Up) → q.up ≡ m ∷ ms → (h : Holds s us last x q k)
-    → Ups k.actor last x.told h.all x.sent ms → Holds s us last x (record { up = ms; down = q.down }) k
-holds_drop s us last x q k m ms e h u = record {
+holds_drop : (s : State) (us : List Update) (last : ℕ) (all : List Batch) (x : Account) (q : Queues) (k : Link) (m : Up) (ms : List Up) → q.up ≡ m ∷ ms → (h : Holds s us last all x q k)
+    → Ups k.actor last x.told all x.sent ms → Holds s us last all x (record { up = ms; down = q.down }) k
+holds_drop s us last all x q k m ms e h u = record {
   done = h.done;
   coming = h.coming;
-  all = h.all;
   whole = h.whole;
   shows = h.shows;
   named = h.named;
@@ -70,21 +69,22 @@ module _ (s : State) (r : Run) (k : ℕ) (m : Up) (ms : List Up) (st : Stands s 
   abbrev rest_of : FinMap nat_cmp Queues
   rest_of = insert r.world.queues k (record { up = ms; down = (queue r.world k).down })
 
-  up_nothing : Ups (at no_link r.world.server.links k).actor (last_clock_of r.world.server k) (account r.world k).told ((st.each k).all) (account r.world k).sent ms
+  up_nothing : Ups (at no_link r.world.server.links k).actor (last_clock_of r.world.server k) (account r.world k).told (r.issued k) (account r.world k).sent ms
       → Stands s (served r rest_of (nothing r.world.server))
   up_nothing u =
-      rw (append-nil r.log) (replaced s r k (record { server = r.world.server; clients = r.world.clients; queues = rest_of }) st refl (λ d e. refl)
+      rw (append-nil r.log) (replaced s r k (record { server = r.world.server; clients = r.world.clients; queues = rest_of }) r.issued st refl (λ d e. refl)
       (λ d e. at_other no_queues r.world.queues k (record { up = ms; down = (queue r.world k).down }) d e)
+      (λ d e. refl)
       (rw (at_same no_queues r.world.queues k (record { up = ms; down = (queue r.world k).down }))
-      (holds_drop s (updates_of r.log) (last_clock_of r.world.server k) (account r.world k) (queue r.world k) (at no_link r.world.server.links k) m ms waits (st.each k) u)))
+      (holds_drop s (updates_of r.log) (last_clock_of r.world.server k) (r.issued k) (account r.world k) (queue r.world k) (at no_link r.world.server.links k) m ms waits (st.each k) u)))
 
   -- a hello
   up_hello : (a : ℕ) → (at no_link r.world.server.links k).actor ≡ a → m ≡ Hello → Stands s (served r rest_of (hello r.world.server k a))
   up_hello (suc a) i e = up_nothing (record { reach = (st.each k).up.reach; order = hello_order; sent = (st.each k).up.sent })
     where
-      hello_order : InOrder (at no_link r.world.server.links k).actor (st.each k).all (last_clock_of r.world.server k) ms (st.each k).up.reach
-      hello_order = subst (λ (n : Up). InOrder (at no_link r.world.server.links k).actor (st.each k).all (last_clock_of r.world.server k) (n ∷ ms) (st.each k).up.reach) e
-          (subst (λ us. InOrder (at no_link r.world.server.links k).actor (st.each k).all (last_clock_of r.world.server k) us (st.each k).up.reach) waits (st.each k).up.order)
+      hello_order : InOrder (at no_link r.world.server.links k).actor (r.issued k) (last_clock_of r.world.server k) ms (st.each k).up.reach
+      hello_order = subst (λ (n : Up). InOrder (at no_link r.world.server.links k).actor (r.issued k) (last_clock_of r.world.server k) (n ∷ ms) (st.each k).up.reach) e
+          (subst (λ us. InOrder (at no_link r.world.server.links k).actor (r.issued k) (last_clock_of r.world.server k) us (st.each k).up.reach) waits (st.each k).up.order)
   up_hello zero i e =
       let log : updates_of (r.log ++ Join k ∷ []) ≡ updates_of r.log = updates_of-append r.log (Join k ∷ []) ∙ append-nil (updates_of r.log) in
       record {
@@ -139,34 +139,34 @@ module _ (s : State) (r : Run) (k : ℕ) (m : Up) (ms : List Up) (st : Stands s 
           too_high : (b : ℕ) → n + 1 ≡ (at no_link r.world.server.links b).actor → ⊥
           too_high b l = absurd (omega (arith, st.links b))
 
-      this : (d : ℕ) → d ≡ k → Holds s (updates_of r.log) (last_of more (at no_link (insert r.world.server.links k new) d).actor) (account r.world d)
+      this : (d : ℕ) → d ≡ k → Holds s (updates_of r.log) (last_of more (at no_link (insert r.world.server.links k new) d).actor) (r.issued d) (account r.world d)
           (at no_queues (deliver rest_of ((k, Room (n + 1) k) ∷ [])) d) (at no_link (insert r.world.server.links k new) d)
       this d j = rw j (rw (queue_here r.world.queues k (record { up = ms; down = (queue r.world k).down }) ((k, Room (n + 1) k) ∷ []), linked)
           (rw (eq-eqb k k refl, last_of-join r.world.server.state.sessions k (n + 1), last_of_past r.world.server.state.sessions (n + 1) (omega arith))
-          (holds_join s (updates_of r.log) (last_clock_of r.world.server k) (account r.world k) (queue r.world k) (at no_link r.world.server.links k) n k ms st.within i
+          (holds_join s (updates_of r.log) (last_clock_of r.world.server k) (r.issued k) (account r.world k) (queue r.world k) (at no_link r.world.server.links k) n k ms st.within i
           (waits ∙ ap (λ (u : Up). u ∷ ms) e) (st.each k))))
 
       with_nothing : (q : Queues) → with_down q [] ≡ q
       with_nothing q = ap (λ ds. record { up = q.up; down = ds }) (append-nil q.down)
 
-      that : (d : ℕ) → (d ≡ k → ⊥) → Holds s (updates_of r.log) (last_of more (at no_link (insert r.world.server.links k new) d).actor) (account r.world d)
+      that : (d : ℕ) → (d ≡ k → ⊥) → Holds s (updates_of r.log) (last_of more (at no_link (insert r.world.server.links k new) d).actor) (r.issued d) (account r.world d)
           (at no_queues (deliver rest_of ((k, Room (n + 1) k) ∷ [])) d) (at no_link (insert r.world.server.links k new) d)
       that d j = rw (queue_there r.world.queues k (record { up = ms; down = (queue r.world k).down }) ((k, Room (n + 1) k) ∷ []) d j, unlinked d j)
           (rw (ne_eqb k d (λ l. j (sym l)), last_of-join r.world.server.state.sessions k (at no_link r.world.server.links d).actor)
           (rw (with_nothing (queue r.world d)) (st.each d)))
 
   -- the order of the frames behind a hello or a fetch
-  up_plain : m ≡ Hello ⊎ m ≡ Fetch → Ups (at no_link r.world.server.links k).actor (last_clock_of r.world.server k) (account r.world k).told ((st.each k).all) (account r.world k).sent ms
+  up_plain : m ≡ Hello ⊎ m ≡ Fetch → Ups (at no_link r.world.server.links k).actor (last_clock_of r.world.server k) (account r.world k).told (r.issued k) (account r.world k).sent ms
   up_plain w = record { reach = (st.each k).up.reach; order = ⊎_elim hello_order fetch_order w; sent = (st.each k).up.sent }
     where
-      order : InOrder (at no_link r.world.server.links k).actor (st.each k).all (last_clock_of r.world.server k) (m ∷ ms) (st.each k).up.reach
-      order = subst (λ us. InOrder (at no_link r.world.server.links k).actor (st.each k).all (last_clock_of r.world.server k) us (st.each k).up.reach) waits (st.each k).up.order
+      order : InOrder (at no_link r.world.server.links k).actor (r.issued k) (last_clock_of r.world.server k) (m ∷ ms) (st.each k).up.reach
+      order = subst (λ us. InOrder (at no_link r.world.server.links k).actor (r.issued k) (last_clock_of r.world.server k) us (st.each k).up.reach) waits (st.each k).up.order
 
-      hello_order : m ≡ Hello → InOrder (at no_link r.world.server.links k).actor (st.each k).all (last_clock_of r.world.server k) ms (st.each k).up.reach
-      hello_order e = subst (λ (n : Up). InOrder (at no_link r.world.server.links k).actor (st.each k).all (last_clock_of r.world.server k) (n ∷ ms) (st.each k).up.reach) e order
+      hello_order : m ≡ Hello → InOrder (at no_link r.world.server.links k).actor (r.issued k) (last_clock_of r.world.server k) ms (st.each k).up.reach
+      hello_order e = subst (λ (n : Up). InOrder (at no_link r.world.server.links k).actor (r.issued k) (last_clock_of r.world.server k) (n ∷ ms) (st.each k).up.reach) e order
 
-      fetch_order : m ≡ Fetch → InOrder (at no_link r.world.server.links k).actor (st.each k).all (last_clock_of r.world.server k) ms (st.each k).up.reach
-      fetch_order e = subst (λ (n : Up). InOrder (at no_link r.world.server.links k).actor (st.each k).all (last_clock_of r.world.server k) (n ∷ ms) (st.each k).up.reach) e order
+      fetch_order : m ≡ Fetch → InOrder (at no_link r.world.server.links k).actor (r.issued k) (last_clock_of r.world.server k) ms (st.each k).up.reach
+      fetch_order e = subst (λ (n : Up). InOrder (at no_link r.world.server.links k).actor (r.issued k) (last_clock_of r.world.server k) (n ∷ ms) (st.each k).up.reach) e order
 
   -- a fetch
   up_fetch : (a : ℕ) → (at no_link r.world.server.links k).actor ≡ a → m ≡ Fetch → Stands s (served r rest_of (fetch r.world.server k a))
@@ -203,15 +203,15 @@ module _ (s : State) (r : Run) (k : ℕ) (m : Up) (ms : List Up) (st : Stands s 
       with_nothing : (q : Queues) → with_down q [] ≡ q
       with_nothing q = ap (λ ds. record { up = q.up; down = ds }) (append-nil q.down)
 
-      this : (d : ℕ) → d ≡ k → Holds s (updates_of r.log) (last_of r.world.server.state.sessions (at no_link (insert r.world.server.links k new) d).actor) (account r.world d)
+      this : (d : ℕ) → d ≡ k → Holds s (updates_of r.log) (last_of r.world.server.state.sessions (at no_link (insert r.world.server.links k new) d).actor) (r.issued d) (account r.world d)
           (at no_queues (deliver rest_of ((k, state) ∷ [])) d) (at no_link (insert r.world.server.links k new) d)
       this d j = rw j (rw (queue_here r.world.queues k (record { up = ms; down = (queue r.world k).down }) ((k, state) ∷ []), linked)
           (rw (eq-eqb k k refl, ← i)
-          (holds_fetch s (updates_of r.log) (last_clock_of r.world.server k) (account r.world k) (queue r.world k) (at no_link r.world.server.links k)
+          (holds_fetch s (updates_of r.log) (last_clock_of r.world.server k) (r.issued k) (account r.world k) (queue r.world k) (at no_link r.world.server.links k)
           (at no_link r.world.server.links k).actor r.world.server.state.count r.world.server.state.tree ms refl (omega arith) st.count st.tree
           (waits ∙ ap (λ (u : Up). u ∷ ms) e) (st.each k))))
 
-      that : (d : ℕ) → (d ≡ k → ⊥) → Holds s (updates_of r.log) (last_of r.world.server.state.sessions (at no_link (insert r.world.server.links k new) d).actor) (account r.world d)
+      that : (d : ℕ) → (d ≡ k → ⊥) → Holds s (updates_of r.log) (last_of r.world.server.state.sessions (at no_link (insert r.world.server.links k new) d).actor) (r.issued d) (account r.world d)
           (at no_queues (deliver rest_of ((k, state) ∷ [])) d) (at no_link (insert r.world.server.links k new) d)
       that d j = rw (queue_there r.world.queues k (record { up = ms; down = (queue r.world k).down }) ((k, state) ∷ []) d j, unlinked d j)
           (rw (ne_eqb k d (λ l. j (sym l)))
@@ -219,7 +219,7 @@ module _ (s : State) (r : Run) (k : ℕ) (m : Up) (ms : List Up) (st : Stands s 
 
   -- a commit of the next batch
   up_commit : (u : Update) → u.actor ≡ (at no_link r.world.server.links k).actor → 0 < (at no_link r.world.server.links k).actor
-      → Holds s (updates_of r.log ++ u ∷ []) (u.first + length u.bodies - 1) (account r.world k)
+      → Holds s (updates_of r.log ++ u ∷ []) (u.first + length u.bodies - 1) (r.issued k) (account r.world k)
       (record { up = ms; down = (queue r.world k).down ++ news (s.count + length (updates_of r.log) + 1) u (at no_link r.world.server.links k).fetched }) (at no_link r.world.server.links k)
       → Stands s (served r rest_of (commit r.world.server u))
   up_commit u own some mine_holds = record {
@@ -252,18 +252,18 @@ module _ (s : State) (r : Run) (k : ℕ) (m : Up) (ms : List Up) (st : Stands s 
       last_here = subst (λ a. last_of now a ≡ u.first + length u.bodies - 1) own
           (last_of_same r.world.server.state.sessions u.actor (u.first + length u.bodies - 1) (omega arith) (omega (arith, st.links k)))
 
-      this : (d : ℕ) → d ≡ k → Holds s (updates_of r.log ++ u ∷ []) (last_of now (at no_link r.world.server.links d).actor) (account r.world d)
+      this : (d : ℕ) → d ≡ k → Holds s (updates_of r.log ++ u ∷ []) (last_of now (at no_link r.world.server.links d).actor) (r.issued d) (account r.world d)
           (at no_queues (deliver rest_of sends) d) (at no_link r.world.server.links d)
       this d j = rw j (rw (queue_here r.world.queues k (record { up = ms; down = (queue r.world k).down }) sends) (rw (sent_to k, last_here) mine_holds))
 
       other_actor : (d : ℕ) → (d ≡ k → ⊥) → u.actor ≡ (at no_link r.world.server.links d).actor → ⊥
       other_actor d j e = j (sym (st.apart k d some (sym own ∙ e)))
 
-      that : (d : ℕ) → (d ≡ k → ⊥) → Holds s (updates_of r.log ++ u ∷ []) (last_of now (at no_link r.world.server.links d).actor) (account r.world d)
+      that : (d : ℕ) → (d ≡ k → ⊥) → Holds s (updates_of r.log ++ u ∷ []) (last_of now (at no_link r.world.server.links d).actor) (r.issued d) (account r.world d)
           (at no_queues (deliver rest_of sends) d) (at no_link r.world.server.links d)
       that d j = rw (queue_there r.world.queues k (record { up = ms; down = (queue r.world k).down }) sends d j)
           (rw (sent_to d, last_of_other r.world.server.state.sessions u.actor (u.first + length u.bodies - 1) (at no_link r.world.server.links d).actor (λ e. other_actor d j (sym e)))
-          (holds_other s (updates_of r.log) (last_clock_of r.world.server d) (account r.world d) (queue r.world d) (at no_link r.world.server.links d) u (other_actor d j) (st.each d)))
+          (holds_other s (updates_of r.log) (last_clock_of r.world.server d) (r.issued d) (account r.world d) (queue r.world d) (at no_link r.world.server.links d) u (other_actor d j) (st.each d)))
 
   -- operations
   operate_old : (a : ℕ) (os : List Op) → rest_beyond (last_of r.world.server.state.sessions (suc a)) os ≡ []
@@ -278,28 +278,28 @@ module _ (s : State) (r : Run) (k : ℕ) (m : Up) (ms : List Up) (st : Stands s 
       (rw (← g) (rw (runs (suc a) f (b ∷ bs)) (rw (bodies_again (suc a) (f + 1) bs) refl))))
 
   up_ops_at : (os : List Op) (a : ℕ) → (at no_link r.world.server.links k).actor ≡ suc a → m ≡ Ops os
-      → Old (last_clock_of r.world.server k) (account r.world k).told (st.each k).all (account r.world k).sent (at no_link r.world.server.links k) os ms
-      ⊎ Next (last_clock_of r.world.server k) (account r.world k).told (st.each k).all (account r.world k).sent (st.each k).ledger.rest (at no_link r.world.server.links k) os ms
+      → Old (last_clock_of r.world.server k) (account r.world k).told (r.issued k) (account r.world k).sent (at no_link r.world.server.links k) os ms
+      ⊎ Next (last_clock_of r.world.server k) (account r.world k).told (r.issued k) (account r.world k).sent (st.each k).ledger.rest (at no_link r.world.server.links k) os ms
       → Stands s (served r rest_of (operate r.world.server os (suc a)))
   up_ops_at os a i e (inl old) = operate_old a os (subst (λ b. rest_beyond (last_of r.world.server.state.sessions b) os ≡ []) i old.gone) (up_nothing old.rest)
   up_ops_at os a i e (inr n) =
       rw (next_ops a os n.batch.first n.batch.bodies (subst (λ b. os ≡ ops_from b n.batch.first n.batch.bodies) i n.ops) n.some
       (subst (λ b. n.batch.first ≡ last_of r.world.server.state.sessions b + 1) i n.first))
       (up_commit (record { actor = suc a; first = n.batch.first; bodies = n.batch.bodies }) (sym i) (omega arith)
-      (holds_own s (updates_of r.log) (last_clock_of r.world.server k) (account r.world k) (queue r.world k) (at no_link r.world.server.links k)
+      (holds_own s (updates_of r.log) (last_clock_of r.world.server k) (r.issued k) (account r.world k) (queue r.world k) (at no_link r.world.server.links k)
       (record { actor = suc a; first = n.batch.first; bodies = n.batch.bodies })
       n.batch ms (omega arith) (sym i) refl refl (st.each k) n.more n.next n.reach n.order n.sent))
 
   up_ops : (os : List Op) (a : ℕ) → (at no_link r.world.server.links k).actor ≡ a → m ≡ Ops os → Stands s (served r rest_of (operate r.world.server os a))
   up_ops os zero i e =
-      let o : InOrder (at no_link r.world.server.links k).actor (st.each k).all (last_clock_of r.world.server k) (Ops os ∷ ms) (st.each k).up.reach =
-      subst (λ us. InOrder (at no_link r.world.server.links k).actor (st.each k).all (last_clock_of r.world.server k) us (st.each k).up.reach) (waits ∙ ap (λ (v : Up). v ∷ ms) e) (st.each k).up.order in
+      let o : InOrder (at no_link r.world.server.links k).actor (r.issued k) (last_clock_of r.world.server k) (Ops os ∷ ms) (st.each k).up.reach =
+      subst (λ us. InOrder (at no_link r.world.server.links k).actor (r.issued k) (last_clock_of r.world.server k) us (st.each k).up.reach) (waits ∙ ap (λ (v : Up). v ∷ ms) e) (st.each k).up.order in
       absurd (subst (λ (bs : List Batch). In o.batch bs)
-      (nothing_issued s (updates_of r.log) (last_clock_of r.world.server k) (account r.world k) (queue r.world k) (at no_link r.world.server.links k) i (st.each k)) o.issued)
+      (nothing_issued s (updates_of r.log) (last_clock_of r.world.server k) (r.issued k) (account r.world k) (queue r.world k) (at no_link r.world.server.links k) i (st.each k)) o.issued)
   up_ops os (suc a) i e =
-      let u : Ups (at no_link r.world.server.links k).actor (last_clock_of r.world.server k) (account r.world k).told (st.each k).all (account r.world k).sent (Ops os ∷ ms) =
-      subst (λ us. Ups (at no_link r.world.server.links k).actor (last_clock_of r.world.server k) (account r.world k).told (st.each k).all (account r.world k).sent us) (waits ∙ ap (λ (v : Up). v ∷ ms) e) (st.each k).up in
-      up_ops_at os a i e (front_frame s (last_clock_of r.world.server k) (account r.world k).told (st.each k).done (st.each k).coming (st.each k).all (issued (account r.world k)) (account r.world k).sent
+      let u : Ups (at no_link r.world.server.links k).actor (last_clock_of r.world.server k) (account r.world k).told (r.issued k) (account r.world k).sent (Ops os ∷ ms) =
+      subst (λ us. Ups (at no_link r.world.server.links k).actor (last_clock_of r.world.server k) (account r.world k).told (r.issued k) (account r.world k).sent us) (waits ∙ ap (λ (v : Up). v ∷ ms) e) (st.each k).up in
+      up_ops_at os a i e (front_frame s (last_clock_of r.world.server k) (account r.world k).told (st.each k).done (st.each k).coming (r.issued k) (issued (account r.world k)) (account r.world k).sent
       (at no_link r.world.server.links k) os ms (st.each k).ledger u)
 
 -- a frame of a connection that isn't attached

@@ -82,17 +82,17 @@ advance s last a done mid rest all pending told l =
       };
     }
 
-module _ (s : State) (us : List Update) (last : ℕ) (x : Account) (q : Queues) (k : Link) (m : Down) (ms : List Down) where
+module _ (s : State) (us : List Update) (last : ℕ) (all : List Batch) (x : Account) (q : Queues) (k : Link) (m : Down) (ms : List Down) where
   nothing_waits : q.down ≡ m ∷ ms → q.down ≡ [] → ⊥
   nothing_waits e f = no_cons (sym e ∙ f)
     where
       no_cons : m ∷ ms ≡ [] → ⊥
       no_cons i = cc
 
-  bound : q.down ≡ m ∷ ms → Holds s us last x q k → k.actor ≡ 0 → ⊥
+  bound : q.down ≡ m ∷ ms → Holds s us last all x q k → k.actor ≡ 0 → ⊥
   bound e h z = nothing_waits e (h.unjoined z).down
 
-module _ (s : State) (us : List Update) (last : ℕ) (x : Account) (q : Queues) (k : Link) (ms : List Down) where
+module _ (s : State) (us : List Update) (last : ℕ) (all : List Batch) (x : Account) (q : Queues) (k : Link) (ms : List Down) where
   not_dialled : Synced ≡ Dialled → ⊥
   not_dialled e = cc
 
@@ -100,8 +100,8 @@ module _ (s : State) (us : List Update) (last : ℕ) (x : Account) (q : Queues) 
   shows_room done b None e h = record { unsynced = λ f. cc; none = h.none; nothing = h.nothing; n = h.n }
   shows_room done b (Some t) e h = absurd (not_dialled (sym h.stage ∙ e))
 
-  holds_room : (b key : ℕ) → q.down ≡ Room b key ∷ ms → Holds s us last x q k
-      → Holds s us last (comes x (Room b key)).0 (record { up = q.up ++ (comes x (Room b key)).1; down = ms }) k
+  holds_room : (b key : ℕ) → q.down ≡ Room b key ∷ ms → Holds s us last all x q k
+      → Holds s us last all (comes x (Room b key)).0 (record { up = q.up ++ (comes x (Room b key)).1; down = ms }) k
   holds_room b key e h =
       let w : Waits s k.actor x.stage h.done h.coming (Room b key ∷ ms) h.down.stage h.down.seen h.down.unseen = rw e at h.down.waits in
       let says = w.says in
@@ -110,7 +110,6 @@ module _ (s : State) (us : List Update) (last : ℕ) (x : Account) (q : Queues) 
       rw says.before (record {
         done = h.done;
         coming = h.coming;
-        all = h.all;
         whole = h.whole;
         shows = shows_room h.done b x.confirmed says.before h.shows;
         named = λ i. says.mine;
@@ -123,10 +122,10 @@ module _ (s : State) (us : List Update) (last : ℕ) (x : Account) (q : Queues) 
           fetched = h.down.fetched;
           joined = h.down.joined;
         };
-        unjoined = λ z. absurd (bound s us last x q k (Room b key) ms e h z);
+        unjoined = λ z. absurd (bound s us last all x q k (Room b key) ms e h z);
         up = record {
           reach = h.up.reach;
-          order = InOrder-append k.actor h.all last q.up (Fetch ∷ []) h.up.reach h.up.reach h.up.order refl;
+          order = InOrder-append k.actor all last q.up (Fetch ∷ []) h.up.reach h.up.reach h.up.order refl;
           sent = h.up.sent;
         };
       })
@@ -139,15 +138,15 @@ module _ (s : State) (us : List Update) (last : ℕ) (x : Account) (q : Queues) 
   all_three a b c e f g = rw (e, f, g) refl
 
   -- what a whole state leaves, once it is taken
-  holds_whole_ok : (seq told : ℕ) (t : Tree) → q.down ≡ Whole seq told t ∷ ms → Holds s us last x q k
-      → Holds s us last (whole_ok x seq told t (nat_le x.n seq && nat_le x.told told && nat_le told (ends x.told (issued x)))).0
+  holds_whole_ok : (seq told : ℕ) (t : Tree) → q.down ≡ Whole seq told t ∷ ms → Holds s us last all x q k
+      → Holds s us last all (whole_ok x seq told t (nat_le x.n seq && nat_le x.told told && nat_le told (ends x.told (issued x)))).0
       (record { up = q.up ++ (whole_ok x seq told t (nat_le x.n seq && nat_le x.told told && nat_le told (ends x.told (issued x)))).1; down = ms }) k
   holds_whole_ok seq told t e h =
       let w : Waits s k.actor x.stage h.done h.coming (Whole seq told t ∷ ms) h.down.stage h.down.seen h.down.unseen = rw e at h.down.waits in
       let says = w.says in
-      let v = advance s last k.actor h.done w.mid w.rest h.all (issued x) x.told (rw (← w.parts) h.ledger) in
+      let v = advance s last k.actor h.done w.mid w.rest all (issued x) x.told (rw (← w.parts) h.ledger) in
       let clock : told ≡ v.clock = says.told ∙ v.is in
-      let l = told_left s us last x q k h in
+      let l = told_left s us last all x q k h in
       let e1 : ends x.told (issued x) ≡ upto x.told (issued x) = ends_upto x.told (issued x) l.chain in
       let n : x.n ≤ seq = n_le h.done w.mid x.confirmed seq says.count h.shows in
       let t1 : nat_le x.n seq ≡ true = grind (arith, nat_tests) in
@@ -155,14 +154,13 @@ module _ (s : State) (us : List Update) (last : ℕ) (x : Account) (q : Queues) 
       let t2 : nat_le x.told told ≡ true = grind (arith, nat_tests) in
       let a3 : told ≤ ends x.told (issued x) = omega (arith, v.within) in
       let t3 : nat_le told (ends x.told (issued x)) ≡ true = grind (arith, nat_tests) in
-      let new = left k.actor s.tree 0 (h.done ++ w.mid) h.all (beyond v.clock (issued x)) v.clock h.ledger.chain v.ledger.took in
-      let reach = InOrder_above k.actor h.all last q.up h.up.reach h.up.order in
+      let new = left k.actor s.tree 0 (h.done ++ w.mid) all (beyond v.clock (issued x)) v.clock h.ledger.chain v.ledger.took in
+      let reach = InOrder_above k.actor all last q.up h.up.reach h.up.order in
       let name : x.actor ≡ k.actor = h.named says.before in
       let nil : beyond told (issued x) ++ [] ≡ beyond told (issued x) = append-nil (beyond told (issued x)) in
       rw (all_three _ _ _ t1 t2 t3) (record {
         done = h.done ++ w.mid;
         coming = w.rest;
-        all = h.all;
         whole = h.whole ∙ ap (λ vs. h.done ++ vs) w.parts ∙ sym (append_assoc h.done w.mid w.rest);
         shows = record { stage = refl; actor = name; tree = says.tree; n = says.count };
         named = λ i. name;
@@ -175,10 +173,10 @@ module _ (s : State) (us : List Update) (last : ℕ) (x : Account) (q : Queues) 
           fetched = h.down.fetched;
           joined = h.down.joined;
         };
-        unjoined = λ z. absurd (bound s us last x q k (Whole seq told t) ms e h z);
+        unjoined = λ z. absurd (bound s us last all x q k (Whole seq told t) ms e h z);
         up = record {
           reach = max h.up.reach (upto v.clock (beyond v.clock (issued x)));
-          order = InOrder-append k.actor h.all last q.up (map (frame_of x.actor) (beyond told (issued x))) h.up.reach (max h.up.reach (upto v.clock (beyond v.clock (issued x)))) h.up.order
+          order = InOrder-append k.actor all last q.up (map (frame_of x.actor) (beyond told (issued x))) h.up.reach (max h.up.reach (upto v.clock (beyond v.clock (issued x)))) h.up.order
               (rw (name, clock) (subst (λ (bs : List Batch). InOrder k.actor bs h.up.reach (map (frame_of k.actor) (beyond v.clock (issued x))) (max h.up.reach (upto v.clock (beyond v.clock (issued x))))) (sym new.parts)
               (frames k.actor new.front (beyond v.clock (issued x)) v.clock h.up.reach new.chain (omega (arith, v.below)))));
           sent = rw clock (omega arith);
@@ -186,15 +184,15 @@ module _ (s : State) (us : List Update) (last : ℕ) (x : Account) (q : Queues) 
       })
 
   -- a whole state
-  whole_at : (seq told : ℕ) (t : Tree) (g : Stage) → x.stage ≡ g → IsOn g → q.down ≡ Whole seq told t ∷ ms → Holds s us last x q k
-      → Holds s us last (whole_comes x seq told t g).0 (record { up = q.up ++ (whole_comes x seq told t g).1; down = ms }) k
+  whole_at : (seq told : ℕ) (t : Tree) (g : Stage) → x.stage ≡ g → IsOn g → q.down ≡ Whole seq told t ∷ ms → Holds s us last all x q k
+      → Holds s us last all (whole_comes x seq told t g).0 (record { up = q.up ++ (whole_comes x seq told t g).1; down = ms }) k
   whole_at seq told t Idle i on e h = absurd on
   whole_at seq told t Dialled i on e h = absurd on
   whole_at seq told t Connected i on e h = holds_whole_ok seq told t e h
   whole_at seq told t Synced i on e h = holds_whole_ok seq told t e h
 
-  holds_whole : (seq told : ℕ) (t : Tree) → q.down ≡ Whole seq told t ∷ ms → Holds s us last x q k
-      → Holds s us last (comes x (Whole seq told t)).0 (record { up = q.up ++ (comes x (Whole seq told t)).1; down = ms }) k
+  holds_whole : (seq told : ℕ) (t : Tree) → q.down ≡ Whole seq told t ∷ ms → Holds s us last all x q k
+      → Holds s us last all (comes x (Whole seq told t)).0 (record { up = q.up ++ (comes x (Whole seq told t)).1; down = ms }) k
   holds_whole seq told t e h =
       let w : Waits s k.actor x.stage h.done h.coming (Whole seq told t ∷ ms) h.down.stage h.down.seen h.down.unseen = rw e at h.down.waits in
       whole_at seq told t x.stage refl (w.says).before e h
@@ -211,9 +209,9 @@ module _ (s : State) (a last told limit : ℕ) (t : Tree) (pending rest : List B
       let e : told ≡ clock = (m.more).clock in
       taken_other a u.actor limit told u.first u.bodies m.other ∙ ap Some e
 
-module _ (s : State) (us : List Update) (last : ℕ) (x : Account) (q : Queues) (k : Link) (ms : List Down) where
-  holds_update_ok : (seq : ℕ) (os : List Op) (o : Option Tree) → x.confirmed ≡ o → x.stage ≡ Synced → q.down ≡ Update_comes seq os ∷ ms → Holds s us last x q k
-      → Holds s us last (cond (seq == x.n + 1) (update_ok x os o (taken x.actor (ends x.told (issued x)) x.told os)) (lost x, [])).0
+module _ (s : State) (us : List Update) (last : ℕ) (all : List Batch) (x : Account) (q : Queues) (k : Link) (ms : List Down) where
+  holds_update_ok : (seq : ℕ) (os : List Op) (o : Option Tree) → x.confirmed ≡ o → x.stage ≡ Synced → q.down ≡ Update_comes seq os ∷ ms → Holds s us last all x q k
+      → Holds s us last all (cond (seq == x.n + 1) (update_ok x os o (taken x.actor (ends x.told (issued x)) x.told os)) (lost x, [])).0
       (record { up = q.up ++ (cond (seq == x.n + 1) (update_ok x os o (taken x.actor (ends x.told (issued x)) x.told os)) (lost x, [])).1; down = ms }) k
   holds_update_ok seq os None o i e h =
       let shown : ShowsAt s h.done k.actor x None = rw o at h.shows in
@@ -222,8 +220,8 @@ module _ (s : State) (us : List Update) (last : ℕ) (x : Account) (q : Queues) 
       let w : Waits s k.actor x.stage h.done h.coming (Update_comes seq os ∷ ms) h.down.stage h.down.seen h.down.unseen = rw e at h.down.waits in
       let says = w.says in
       let shown : ShowsAt s h.done k.actor x (Some t) = rw o at h.shows in
-      let v = advance s last k.actor h.done w.mid w.rest h.all (issued x) x.told (rw (← w.parts) h.ledger) in
-      let l = told_left s us last x q k h in
+      let v = advance s last k.actor h.done w.mid w.rest all (issued x) x.told (rw (← w.parts) h.ledger) in
+      let l = told_left s us last all x q k h in
       let u = says.update in
       let e1 : ends x.told (issued x) ≡ upto x.told (issued x) = ends_upto x.told (issued x) l.chain in
       let here : Matches k.actor (tree_after s.tree h.done) x.told (u ∷ []) (issued x) (beyond v.clock (issued x)) v.clock =
@@ -235,11 +233,10 @@ module _ (s : State) (us : List Update) (last : ℕ) (x : Account) (q : Queues) 
       let parts = beyond-append v.clock x.sent x.fresh in
       let tree : fold t (bodies_of os) ≡ tree_after s.tree (h.done ++ w.mid) =
       rw (says.ops, bodies_again u.actor u.first u.bodies, shown.tree) (sym (tree_after-append s.tree h.done w.mid ∙ ap (tree_after (tree_after s.tree h.done)) says.one)) in
-      let reach = InOrder_above k.actor h.all last q.up h.up.reach h.up.order in
+      let reach = InOrder_above k.actor all last q.up h.up.reach h.up.order in
       rw (eq-eqb seq (x.n + 1) number) (rw next (record {
         done = h.done ++ w.mid;
         coming = w.rest;
-        all = h.all;
         whole = h.whole ∙ ap (λ vs. h.done ++ vs) w.parts ∙ sym (append_assoc h.done w.mid w.rest);
         shows = record { stage = i; actor = shown.actor; tree = tree; n = omega arith };
         named = h.named;
@@ -252,7 +249,7 @@ module _ (s : State) (us : List Update) (last : ℕ) (x : Account) (q : Queues) 
           fetched = h.down.fetched;
           joined = h.down.joined;
         };
-        unjoined = λ z. absurd (bound s us last x q k (Update_comes seq os) ms e h z);
+        unjoined = λ z. absurd (bound s us last all x q k (Update_comes seq os) ms e h z);
         up = record {
           reach = h.up.reach;
           order = rw (append-nil q.up) h.up.order;
@@ -260,10 +257,10 @@ module _ (s : State) (us : List Update) (last : ℕ) (x : Account) (q : Queues) 
         };
       }))
 
-  holds_update : (seq : ℕ) (os : List Op) (g : Stage) → x.stage ≡ g → g ≡ Synced → q.down ≡ Update_comes seq os ∷ ms → Holds s us last x q k
-      → Holds s us last (update_comes x seq os g).0 (record { up = q.up ++ (update_comes x seq os g).1; down = ms }) k
+  holds_update : (seq : ℕ) (os : List Op) (g : Stage) → x.stage ≡ g → g ≡ Synced → q.down ≡ Update_comes seq os ∷ ms → Holds s us last all x q k
+      → Holds s us last all (update_comes x seq os g).0 (record { up = q.up ++ (update_comes x seq os g).1; down = ms }) k
   holds_update seq os Idle i f e h = absurd (idle_synced f)
-  holds_update seq os Dialled i f e h = absurd (not_dialled s us last x q k ms (sym f))
+  holds_update seq os Dialled i f e h = absurd (not_dialled s us last all x q k ms (sym f))
   holds_update seq os Connected i f e h = absurd (connected_synced f)
     where
       connected_synced : Connected ≡ Synced → ⊥
@@ -271,10 +268,10 @@ module _ (s : State) (us : List Update) (last : ℕ) (x : Account) (q : Queues) 
   holds_update seq os Synced i f e h = holds_update_ok seq os x.confirmed refl i e h
 
   -- any message
-  pub holds_comes : (m : Down) → q.down ≡ m ∷ ms → Holds s us last x q k
-      → Holds s us last (comes x m).0 (record { up = q.up ++ (comes x m).1; down = ms }) k
-  holds_comes (Room b key) e h = holds_room s us last x q k ms b key e h
-  holds_comes (Whole seq told t) e h = holds_whole s us last x q k ms seq told t e h
+  pub holds_comes : (m : Down) → q.down ≡ m ∷ ms → Holds s us last all x q k
+      → Holds s us last all (comes x m).0 (record { up = q.up ++ (comes x m).1; down = ms }) k
+  holds_comes (Room b key) e h = holds_room s us last all x q k ms b key e h
+  holds_comes (Whole seq told t) e h = holds_whole s us last all x q k ms seq told t e h
   holds_comes (Update_comes seq os) e h =
       let w : Waits s k.actor x.stage h.done h.coming (Update_comes seq os ∷ ms) h.down.stage h.down.seen h.down.unseen = rw e at h.down.waits in
       holds_update seq os x.stage refl (w.says).before e h

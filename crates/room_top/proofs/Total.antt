@@ -19,6 +19,7 @@ abbrev pub served : Run → FinMap nat_cmp Queues → Served → Run
 served r qs v = record {
   world = record { server = v.server; clients = r.world.clients; queues = deliver qs v.sends };
   log = r.log ++ v.entry;
+  issued = r.issued;
 }
 
 same_key : (q k : ℕ) → q ≡ k → eq_by_cmp nat_cmp q k ≡ true

@@ -73,11 +73,21 @@ taken a limit c (o ∷ os) = cond (o.actor == a)
 abbrev pub lost : Account → Account
 lost x = record x { stage = Idle; sent = []; fresh = issued x }
 
--- an edit of a loaded client: a batch of its own
+-- the batch that follows
+abbrev pub next_batch : Account → List Body → Batch
+next_batch x bodies = record { first = ends x.told (issued x) + 1; bodies = bodies }
+
+-- what an edit issues: a batch of its own, where the client is loaded
+abbrev pub edit_issues : Account → List Body → Option Nodes → List Batch
+edit_issues x bodies None = []
+edit_issues x [] (Some t) = []
+edit_issues x (b ∷ bs) (Some t) = next_batch x (b ∷ bs) ∷ []
+
+-- an edit of a loaded client: its batch is fresh
 abbrev pub edit_at : Account → List Body → Option Nodes → Account
 edit_at x bodies None = x
 edit_at x [] (Some t) = x
-edit_at x (b ∷ bs) (Some t) = record x { fresh = x.fresh ++ record { first = ends x.told (issued x) + 1; bodies = b ∷ bs } ∷ [] }
+edit_at x (b ∷ bs) (Some t) = record x { fresh = x.fresh ++ next_batch x (b ∷ bs) ∷ [] }
 
 abbrev pub edit : Account → List Body → Account
 edit x bodies = edit_at x bodies x.confirmed

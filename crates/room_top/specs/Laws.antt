@@ -1,25 +1,38 @@
 -- Runs, and what holds of each loaded client after any lines.
-use Rattle.std.specs.Prelude.{◌≡◌, ◌≤◌, ℕ, ◌+◌, ◌-◌, List, [], ◌∷◌, ◌++◌, length, take, Some}
+use Rattle.std.specs.Prelude.{◌≡◌, ◌≤◌, ℕ, ◌+◌, ◌-◌, ◌==◌, if◌then◌else◌, Option, None, List, [], ◌∷◌, ◌++◌, length, take, Some}
 use Rattle.std.specs.Ordering.{nat_cmp}
 use Rattle.std.specs.FinMap.{FinMap, get}
 use Rattle.std.specs.Option.{unwrap_or}
+use Rattle.room_nodes.specs.declared.nodes.Body.{Body}
 use Rattle.room_nodes.specs.Shape.{Nodes}
-use Rattle.room_top.specs.Log.{State, Entry, updates_of, tree_after, last_after}
-use Rattle.room_top.specs.Account.{Account, new_account, issued, pending, shown, with_batches}
+use Rattle.room_top.specs.Log.{State, Entry, Update, updates_of, tree_after, last_after}
+use Rattle.room_top.specs.Account.{Account, beyond, edit_issues, new_account, issued, pending, shown, with_batches}
+use Rattle.room_top.specs.Messages.{Batch}
 use Rattle.room_top.specs.Queues.{Queues}
 use Rattle.room_top.specs.World.{World, Stepped, world_step, opened}
 use Rattle.room_top.specs.declared.lines.Line.{Line}
+use Rattle.room_top.specs.declared.lines.Line.TheVariants.{Edit}
 
--- a world, and the entries of the log since its beginning
+-- a world, the entries of the log since its beginning, and for each client all batches that it issued, in order
 pub record Run : Type 0 where
   pub world : World
   pub log : List Entry
+  pub issued : ℕ → List Batch
 
 abbrev pub then_stepped : Run → Stepped → Run
-then_stepped r s = record { world = s.world; log = r.log ++ s.added }
+then_stepped r s = record { world = s.world; log = r.log ++ s.added; issued = r.issued }
+
+-- what an edit of a client issues
+abbrev pub issued_by : Option Account → List Body → List Batch
+issued_by None bodies = []
+issued_by (Some x) bodies = edit_issues x bodies x.confirmed
+
+abbrev pub also_issued : (ℕ → List Batch) → World → Line → ℕ → List Batch
+also_issued all w (Edit c b) = λ d. if d == c then all d ++ issued_by (get w.clients c) (b ∷ []) else all d
+also_issued all w l = all
 
 abbrev pub line : Run → Line → Run
-line r l = then_stepped r (world_step r.world l)
+line r l = record { world = (world_step r.world l).world; log = r.log ++ (world_step r.world l).added; issued = also_issued r.issued r.world l }
 
 abbrev pub run : Run → List Line → Run
 run r [] = r
@@ -27,7 +40,7 @@ run r (l ∷ ls) = run (line r l) ls
 
 -- a server with this state, and nobody there
 abbrev pub opened_run : State → Run
-opened_run s = record { world = opened s; log = [] }
+opened_run s = record { world = opened s; log = []; issued = λ c. [] }
 
 -- what a map has at a key, or else the first value: for reading alone
 abbrev pub at : {X : Type 0} → X → FinMap nat_cmp X → ℕ → X
@@ -50,18 +63,28 @@ tree_at s log n = tree_after s.tree (take (n - s.count) (updates_of log))
 abbrev pub last_at : State → List Entry → ℕ → ℕ → ℕ
 last_at s log n a = last_after a 0 (take (n - s.count) (updates_of log))
 
+-- the updates of an actor, as batches
+abbrev pub batches_of : ℕ → List Update → List Batch
+batches_of a [] = []
+batches_of a (u ∷ us) = if u.actor == a then record { first = u.first; bodies = u.bodies } ∷ batches_of a us else batches_of a us
+
 -- x.n is the number of an update of the log, or that of the opening state where it took none. The confirmed tree t of a client
--- is that of the log after the update of this number, and so is the clock that it was told. So it shows that tree with its
--- unacknowledged batches on top, and that tree alone where nothing is unacknowledged
-pub record Shows (s : State) (log : List Entry) (x : Account) (t : Nodes) : Type 0 where
+-- is that of the log after the update of this number, and so is the clock that it was told. What is unacknowledged is what is
+-- beyond this clock of all batches that it ever issued. So it shows that tree with these on top, and that tree alone where
+-- nothing is unacknowledged. The log has each batch once: the updates of its actor are whole batches that it issued, the first
+-- of them, in order; and what is acknowledged is in the log
+pub record Shows (s : State) (log : List Entry) (all : List Batch) (x : Account) (t : Nodes) : Type 0 where
   pub begun : s.count ≤ x.n
   pub counted : x.n ≤ s.count + length (updates_of log)
   pub tree : t ≡ tree_at s log x.n
   pub told : x.told ≡ last_at s log x.n x.actor
-  pub shows : shown x ≡ Some (with_batches (tree_at s log x.n) (issued x))
+  pub left : issued x ≡ beyond x.told all
+  pub shows : shown x ≡ Some (with_batches (tree_at s log x.n) (beyond x.told all))
+  pub once : (rest : List Batch) × (all ≡ batches_of x.actor (updates_of log) ++ rest)
+  pub acknowledged : x.told ≤ last_after x.actor 0 (updates_of log)
   pub settled : pending x ≡ 0 → shown x ≡ Some (tree_at s log x.n)
 
 abbrev pub EachShows : Type 0
 EachShows = (s : State) (lines : List Line) (c : ℕ) (t : Nodes) →
     (account (run (opened_run s) lines).world c).confirmed ≡ Some t →
-    Shows s (run (opened_run s) lines).log (account (run (opened_run s) lines).world c) t
+    Shows s (run (opened_run s) lines).log ((run (opened_run s) lines).issued c) (account (run (opened_run s) lines).world c) t
