@@ -23,24 +23,32 @@ pub struct Hello {
 /// A message of a client.
 #[derive(Drop)]
 pub enum ClientMsg {
+    /// Begins a session, or goes on with one.
     Hello(Hello),
     /// A patch to all others without a target, a full presence to all others at -1, and else to one actor.
     Presence { target: Option<i64>, patch: Members },
+    /// An event for all others.
     Broadcast(Json),
+    /// Asks for the state.
     Fetch,
+    /// Operations, in their order.
     Update(Ops),
 }
 
 /// A message of the server.
 #[derive(Drop)]
 pub enum ServerMsg {
+    /// What an actor shows: a patch without a target, and else a full presence.
     Presence {
         actor: u32,
         target: Option<i64>,
         patch: Members,
     },
+    /// An actor has come.
     Joined(u32),
+    /// An actor has gone.
     Left(u32),
+    /// An event of an actor.
     Broadcast {
         actor: u32,
         event: Json,
@@ -53,12 +61,16 @@ pub enum ServerMsg {
     },
     /// A part of a state; `more` in every part but the last.
     State {
+        /// The number of updates, up to 2^53-1.
         seq: u64,
+        /// The last clock of the session, up to 2^53-1.
         last: u64,
         items: Items,
         more: bool,
     },
+    /// The settled operations of one update.
     Update {
+        /// The number of updates with this one, up to 2^53-1.
         seq: u64,
         ops: Ops,
     },
@@ -73,13 +85,17 @@ pub type ServerMsgs = Seq<ServerMsg>;
 /// What a client sends at once.
 #[derive(Drop)]
 pub enum ClientFrame {
+    /// The text `ping`.
     Ping,
+    /// A list of messages.
     Msgs(ClientMsgs),
 }
 
 /// What the server sends at once.
 #[derive(Drop)]
 pub enum ServerFrame {
+    /// The text `pong`.
     Pong,
+    /// One message, or a list of them.
     Msgs(ServerMsgs),
 }

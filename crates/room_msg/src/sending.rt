@@ -214,6 +214,8 @@ fn write_msgs(alloc: Global, msgs: &[ClientMsg]) -> Result<Items, NoMemory>
 }
 
 /// The text of a client's frame. Within the limits of frames it is read again as these messages.
+///
+/// Asks for a target from -1 to 4294967295, a resumed actor from 1 on, and a name of at most 64 bytes.
 pub fn write_client(alloc: Global, msgs: &ClientMsgs) -> Result<Text, NoMemory>
     requires { All IsSendable msgs.now }
     ensures text { IfOk result (λ t. t ≡ client_text msgs.now) }

@@ -189,6 +189,9 @@ fn write_msg(alloc: Global, msg: &ServerMsg) -> Result<Json, NoMemory>
 }
 
 /// The text of a server's frame. Where it is not too deep it is read again as this message.
+///
+/// Asks for a target from -1 to 4294967295, an own actor from 1 on, users in rising order of actor, and `seq` and
+/// `last` up to 2^53-1.
 pub fn write_server(alloc: Global, msg: &ServerMsg) -> Result<Text, NoMemory>
     requires { IsServed msg.now }
     ensures text { IfOk result (λ t. t ≡ server_text msg.now) }

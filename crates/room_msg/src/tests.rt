@@ -1,10 +1,15 @@
+mod fields;
+mod limits;
+mod operations;
+
 ghost use Rattle.std.specs.Prelude.{◌≡◌, true, All};
 ghost use Rattle.room_msg.specs.Laws.{IsSendable, IsServed, IsTarget};
 ghost use Rattle.room_msg.specs.Users.{IsRising};
 
 use super::*;
-use room_json::{Copied, Text};
+use room_json::{Copied, NoMemory, Text};
 use std::alloc::Global;
+use std::process::Abort;
 use std::test::Fail;
 
 fn is_target(target: Option<i64>) -> bool
@@ -83,149 +88,98 @@ fn is_served(msg: &ServerMsg) -> bool
     }
 }
 
-fn client_frame(alloc: Global, text: &str) -> Result<ClientFrame, MsgFault> {
-    match Text::from_str(alloc, text) {
-        Ok(text) => read_client(alloc, &text),
-        Err(_) => Err(MsgFault::Memory),
+/// Who sends a frame.
+#[derive(Clone, Copy)]
+enum Sender {
+    Client,
+    Server,
+}
+
+/// Frames of one sender that differ in a piece alone.
+#[derive(Clone, Copy)]
+struct Frame<'a> {
+    from: Sender,
+    start: &'a str,
+    end: &'a str,
+}
+
+impl Frame<'_> {
+    /// The frame with this piece.
+    fn with(&self, alloc: Global, piece: &str) -> Result<Text, NoMemory> {
+        let mut text = Text::from_str(alloc, self.start)?;
+        text.push_str(piece)?;
+        text.push_str(self.end)?;
+        Ok(text)
     }
 }
 
-fn server_frame(alloc: Global, text: &str) -> Result<ServerFrame, MsgFault> {
-    match Text::from_str(alloc, text) {
-        Ok(text) => read_server(alloc, &text),
-        Err(_) => Err(MsgFault::Memory),
-    }
-}
-
-/// The reason of a refusal in a word.
-fn word(reason: &Reason) -> &str {
+/// The reason of a refusal in words.
+fn words(alloc: Global, reason: &Reason) -> Result<Text, NoMemory> {
     match reason {
-        Reason::Size => "size",
-        Reason::Json => "json",
-        Reason::Depth => "depth",
-        Reason::Number => "number",
-        Reason::List => "list",
-        Reason::Kind => "type",
-        Reason::Field(name) => name.as_str(),
-        Reason::Hello => "hello",
-        Reason::Room => "room",
+        Reason::Size => Text::from_str(alloc, "size"),
+        Reason::Json => Text::from_str(alloc, "json"),
+        Reason::Depth => Text::from_str(alloc, "depth"),
+        Reason::Number => Text::from_str(alloc, "number"),
+        Reason::List => Text::from_str(alloc, "list"),
+        Reason::Kind => Text::from_str(alloc, "type"),
+        Reason::Field(name) => {
+            let mut words = Text::from_str(alloc, "field ")?;
+            words.push_str(name.as_str())?;
+            Ok(words)
+        }
+        Reason::Hello => Text::from_str(alloc, "hello"),
+        Reason::Room => Text::from_str(alloc, "room"),
     }
 }
 
-#[test]
-fn frames_of_clients_are_refused(rt: HostRuntime) -> Result<(), Fail> {
-    let alloc = rt.alloc();
-    for (text, reason) in [
-        ("", "json"),
-        ("[", "json"),
-        ("pong", "json"),
-        ("{}", "list"),
-        ("[1.5]", "number"),
-        ("[7]", "type"),
-        (r#"[{"type":7}]"#, "type"),
-        (r#"[{"type":101}]"#, "type"),
-        (r#"[{"type":100}]"#, "data"),
-        (
-            r#"[{"type":100,"data":{},"targetActor":-2}]"#,
-            "targetActor",
-        ),
-        (
-            r#"[{"type":100,"data":{},"targetActor":null}]"#,
-            "targetActor",
-        ),
-        (r#"[{"type":100,"data":[],"targetActor":-2}]"#, "data"),
-        (r#"[{"type":103}]"#, "event"),
-        (r#"[{"type":201,"ops":{}}]"#, "ops"),
-        (r#"[{"type":201,"ops":[{"type":9}]}]"#, "type"),
-        (r#"[{"type":201,"ops":[{"type":5,"id":"root"}]}]"#, "opId"),
-        (r#"[{"type":200},{"type":1}]"#, "room"),
-        (r#"[{"type":1,"room":"r","resume":null}]"#, "resume"),
-        (
-            r#"[{"type":1,"room":"r","resume":{"actor":0,"key":"0123456789abcdef"}}]"#,
-            "resume",
-        ),
-        (
-            r#"[{"type":1,"room":"r","resume":{"actor":1,"key":"0123456789ABCDEF"}}]"#,
-            "resume",
-        ),
-        (
-            r#"[{"type":1,"room":"r","resume":{"actor":1,"key":"0123456789abcde"}}]"#,
-            "resume",
-        ),
-        (r#"[{"type":1,"room":"r","name":null,"pass":1}]"#, "name"),
-        (r#"[{"type":1,"room":"r","name":"n","pass":null}]"#, "pass"),
-    ] {
-        match client_frame(alloc, text) {
-            Err(MsgFault::Bad(found)) => assert_eq!(rt; word(&found), reason, "{text}"),
-            _ => return Err(Fail::new("not refused")),
-        }
+/// `read`, or why no frame was.
+fn outcome_of<T: Drop>(alloc: Global, frame: Result<T, MsgFault>) -> Result<Text, NoMemory> {
+    match frame {
+        Ok(_) => Text::from_str(alloc, "read"),
+        Err(MsgFault::Memory) => Text::from_str(alloc, "no memory"),
+        Err(MsgFault::Bad(reason)) => words(alloc, &reason),
+    }
+}
+
+/// What becomes of a frame.
+fn outcome(alloc: Global, from: Sender, frame: &Text) -> Result<Text, NoMemory> {
+    match from {
+        Sender::Client => outcome_of(alloc, read_client(alloc, frame)),
+        Sender::Server => outcome_of(alloc, read_server(alloc, frame)),
+    }
+}
+
+/// Each frame has the outcome beside it.
+fn come_to(
+    rt: &impl Abort,
+    alloc: Global,
+    from: Sender,
+    cases: &[(&str, &str)],
+) -> Result<(), Fail> {
+    for (text, wanted) in cases {
+        let frame = Text::from_str(alloc, text)?;
+        assert_eq!(rt; outcome(alloc, from, &frame)?.as_str(), *wanted, "{text}");
     }
     Ok(())
 }
 
-#[test]
-fn frames_of_the_server_are_refused(rt: HostRuntime) -> Result<(), Fail> {
-    let alloc = rt.alloc();
-    for (text, reason) in [
-        ("7", "list"),
-        ("ping", "json"),
-        ("{}", "type"),
-        (r#"{"type":1}"#, "type"),
-        (r#"{"type":101,"actor":4294967296}"#, "actor"),
-        (r#"{"type":104,"actor":0}"#, "actor"),
-        (r#"{"type":104,"actor":1,"key":"A000000000000000"}"#, "key"),
-        (
-            r#"{"type":104,"actor":1,"key":"0000000000000000","users":{"01":{}}}"#,
-            "users",
-        ),
-        (
-            r#"{"type":104,"actor":1,"key":"0000000000000000","users":{"4294967296":{}}}"#,
-            "users",
-        ),
-        (
-            r#"{"type":104,"actor":1,"key":"0000000000000000","users":{"1":null}}"#,
-            "users",
-        ),
-        (r#"{"type":200,"seq":9007199254740991,"last":-1}"#, "last"),
-        (
-            r#"{"type":200,"seq":0,"last":0,"items":[],"more":null}"#,
-            "more",
-        ),
-        (r#"[{"type":201,"seq":0}]"#, "ops"),
-    ] {
-        match server_frame(alloc, text) {
-            Err(MsgFault::Bad(found)) => assert_eq!(rt; word(&found), reason, "{text}"),
-            _ => return Err(Fail::new("not refused")),
-        }
+/// The frame has the same outcome with each of the pieces.
+fn all_come_to(
+    rt: &impl Abort,
+    alloc: Global,
+    frame: &Frame<'_>,
+    wanted: &str,
+    pieces: &[&str],
+) -> Result<(), Fail> {
+    for piece in pieces {
+        let text = frame.with(alloc, piece)?;
+        assert_eq!(rt;
+            outcome(alloc, frame.from, &text)?.as_str(),
+            wanted,
+            "{piece}"
+        );
     }
     Ok(())
-}
-
-#[test]
-fn frames_of_clients_are_read_and_written(rt: HostRuntime) -> Result<(), Fail> {
-    let alloc = rt.alloc();
-    for text in [
-        "[]",
-        r#"[{"room":"r","type":1}]"#,
-        r#"[{"name":"Ann","pass":"k","resume":{"actor":1,"key":"0123456789abcdef"},"room":"r","type":1}]"#,
-        r#"[{"data":{"x":1},"type":100}]"#,
-        r#"[{"data":{},"targetActor":-1,"type":100}]"#,
-        r#"[{"data":{},"targetActor":4294967295,"type":100},{"event":null,"type":103}]"#,
-        r#"[{"type":200}]"#,
-        r#"[{"ops":[{"id":"root","key":"a","opId":"1:1","type":6}],"type":201}]"#,
-    ] {
-        let ClientFrame::Msgs(msgs) = accepted(client_frame(alloc, text))?.copy(alloc)? else {
-            return Err(Fail::new("no messages"));
-        };
-        if !are_sendable(msgs.as_slice()) {
-            return Err(Fail::new("not sendable"));
-        }
-        assert_eq!(rt; write_client(alloc, &msgs)?.as_str(), text);
-    }
-    match client_frame(alloc, "ping") {
-        Ok(ClientFrame::Ping) => Ok(()),
-        _ => Err(Fail::new("no ping")),
-    }
 }
 
 fn accepted<T: Drop>(frame: Result<T, MsgFault>) -> Result<T, Fail> {
@@ -235,69 +189,222 @@ fn accepted<T: Drop>(frame: Result<T, MsgFault>) -> Result<T, Fail> {
     }
 }
 
-/// The text of the first message of a frame, written again.
-fn again(alloc: Global, text: &str) -> Result<Text, Fail> {
-    let ServerFrame::Msgs(msgs) = accepted(server_frame(alloc, text))?.copy(alloc)? else {
+fn client_again(alloc: Global, frame: &Text) -> Result<Text, Fail> {
+    let ClientFrame::Msgs(msgs) = accepted(read_client(alloc, frame))?.copy(alloc)? else {
         return Err(Fail::new("no messages"));
     };
-    let Some(msg) = msgs.get(0) else {
-        return Err(Fail::new("no message"));
-    };
-    if !is_served(msg) {
-        return Err(Fail::new("not served"));
+    if !are_sendable(msgs.as_slice()) {
+        return Err(Fail::new("not sendable"));
     }
-    Ok(write_server(alloc, msg)?)
+    Ok(write_client(alloc, &msgs)?)
+}
+
+/// The list of the messages, each written by itself.
+fn server_again(alloc: Global, frame: &Text) -> Result<Text, Fail> {
+    let ServerFrame::Msgs(msgs) = accepted(read_server(alloc, frame))?.copy(alloc)? else {
+        return Err(Fail::new("no messages"));
+    };
+    let mut list = Text::from_str(alloc, "[")?;
+    for msg in msgs.as_slice() {
+        if !is_served(msg) {
+            return Err(Fail::new("not served"));
+        }
+        if list.len() > 1 {
+            list.push_str(",")?;
+        }
+        list.push_str(write_server(alloc, msg)?.as_str())?;
+    }
+    list.push_str("]")?;
+    Ok(list)
+}
+
+/// All messages of a frame, written again as a list.
+fn again(alloc: Global, from: Sender, frame: &Text) -> Result<Text, Fail> {
+    match from {
+        Sender::Client => client_again(alloc, frame),
+        Sender::Server => server_again(alloc, frame),
+    }
+}
+
+/// Each list of messages is written again as the text beside it.
+fn written(
+    rt: &impl Abort,
+    alloc: Global,
+    frame: &Frame<'_>,
+    cases: &[(&str, &str)],
+) -> Result<(), Fail> {
+    for (read, wanted) in cases {
+        let text = frame.with(alloc, read)?;
+        let wanted = frame.with(alloc, wanted)?;
+        assert_eq!(rt; again(alloc, frame.from, &text)?.as_str(), wanted.as_str());
+    }
+    Ok(())
+}
+
+/// Each list of messages is written again as it was read.
+fn kept(rt: &impl Abort, alloc: Global, frame: &Frame<'_>, pieces: &[&str]) -> Result<(), Fail> {
+    for piece in pieces {
+        let text = frame.with(alloc, piece)?;
+        assert_eq!(rt; again(alloc, frame.from, &text)?.as_str(), text.as_str());
+    }
+    Ok(())
+}
+
+#[test]
+fn frames_of_clients_are_refused(rt: HostRuntime) -> Result<(), Fail> {
+    come_to(
+        &rt,
+        rt.alloc(),
+        Sender::Client,
+        &[
+            ("pong", "json"),
+            ("{}", "list"),
+            ("[7]", "type"),
+            ("[[]]", "type"),
+            ("[{}]", "type"),
+            (r#"[{"type":7}]"#, "type"),
+            (r#"[{"type":101}]"#, "type"),
+            (r#"[{"type":"1"}]"#, "type"),
+            (r#"[{"type":1}]"#, "field room"),
+            (r#"[{"type":1,"room":null}]"#, "field room"),
+            (r#"[{"type":100}]"#, "field data"),
+            (r#"[{"type":100,"data":[],"targetActor":-2}]"#, "field data"),
+            (r#"[{"type":103}]"#, "field event"),
+            (r#"[{"type":201}]"#, "field ops"),
+            (r#"[{"type":201,"ops":{}}]"#, "field ops"),
+            (r#"[{"type":201,"ops":[{"type":9}]}]"#, "field type"),
+        ],
+    )
+}
+
+#[test]
+fn frames_of_the_server_are_refused(rt: HostRuntime) -> Result<(), Fail> {
+    come_to(
+        &rt,
+        rt.alloc(),
+        Sender::Server,
+        &[
+            ("ping", "json"),
+            ("7", "list"),
+            ("{}", "type"),
+            ("[7]", "type"),
+            (r#"{"type":1}"#, "type"),
+            (r#"{"type":null}"#, "type"),
+            (r#"{"type":100,"actor":1}"#, "field data"),
+            (
+                r#"{"type":100,"actor":1,"data":[],"targetActor":-2}"#,
+                "field data",
+            ),
+            (r#"{"type":102}"#, "field actor"),
+            (r#"{"type":103,"actor":1}"#, "field event"),
+            (r#"{"type":104,"actor":0}"#, "field actor"),
+            (r#"{"type":104,"actor":1}"#, "field key"),
+            (
+                r#"{"type":104,"actor":1,"key":"A000000000000000"}"#,
+                "field key",
+            ),
+            (r#"{"type":200}"#, "field seq"),
+            (r#"{"type":200,"seq":9007199254740992}"#, "number"),
+            (
+                r#"{"type":200,"seq":9007199254740991,"last":-1}"#,
+                "field last",
+            ),
+            (r#"{"type":200,"seq":0,"last":0}"#, "field items"),
+            (r#"{"type":201,"seq":-1}"#, "field seq"),
+            (r#"[{"type":201,"seq":0}]"#, "field ops"),
+            (r#"{"type":201,"seq":0,"ops":[{"type":9}]}"#, "field type"),
+        ],
+    )
+}
+
+/// The first message that is wrong gives the reason, be it the last or not.
+#[test]
+fn each_message_is_whole_before_the_next(rt: HostRuntime) -> Result<(), Fail> {
+    let alloc = rt.alloc();
+    come_to(
+        &rt,
+        alloc,
+        Sender::Client,
+        &[
+            (r#"[{"type":200},7]"#, "type"),
+            (r#"[{"type":200},{"type":1}]"#, "field room"),
+            (r#"[{"type":100},{"type":7}]"#, "field data"),
+        ],
+    )?;
+    come_to(
+        &rt,
+        alloc,
+        Sender::Server,
+        &[
+            (r#"[{"type":101,"actor":1},7]"#, "type"),
+            (r#"[{"type":101,"actor":1},{"type":102}]"#, "field actor"),
+            (r#"[{"type":103,"actor":1},{"type":7}]"#, "field event"),
+        ],
+    )
+}
+
+#[test]
+fn frames_of_clients_are_read_and_written(rt: HostRuntime) -> Result<(), Fail> {
+    let alloc = rt.alloc();
+    let frame = Frame {
+        from: Sender::Client,
+        start: "[",
+        end: "]",
+    };
+    kept(
+        &rt,
+        alloc,
+        &frame,
+        &[
+            "",
+            r#"{"room":"r","type":1}"#,
+            r#"{"data":{"x":1},"type":100}"#,
+            r#"{"event":null,"type":103},{"event":[1],"type":103}"#,
+            r#"{"type":200},{"ops":[],"type":201},{"type":200}"#,
+        ],
+    )?;
+    match read_client(alloc, &Text::from_str(alloc, "ping")?) {
+        Ok(ClientFrame::Ping) => Ok(()),
+        _ => Err(Fail::new("no ping")),
+    }
 }
 
 #[test]
 fn frames_of_the_server_are_read_and_written(rt: HostRuntime) -> Result<(), Fail> {
     let alloc = rt.alloc();
-    for text in [
-        r#"{"actor":1,"data":{"x":1},"type":100}"#,
-        r#"{"actor":1,"data":{},"targetActor":0,"type":100}"#,
-        r#"{"actor":0,"type":101}"#,
-        r#"{"actor":4294967295,"type":102}"#,
-        r#"{"actor":1,"event":[],"type":103}"#,
-        r#"{"actor":2,"key":"00000000000000ff","type":104,"users":{"1":{"name":"Ann"},"10":{},"9":{"name":"Bo"}}}"#,
-        r#"{"items":[["root",{"data":{},"type":0}]],"last":0,"seq":9007199254740991,"type":200}"#,
-        r#"{"items":[],"last":1,"more":true,"seq":2,"type":200}"#,
-        r#"{"ops":[{"id":"1:2","opId":"1:1","type":5}],"seq":3,"type":201}"#,
-    ] {
-        assert_eq!(rt; again(alloc, text)?.as_str(), text);
-    }
-    assert_eq!(rt;
-        again(
-            alloc,
-            r#"[{"actor":1,"key":"0000000000000001","type":104,"users":{"1":{"name":7,"x":1}}},{"type":101,"actor":1}]"#
-        )?
-        .as_str(),
-        r#"{"actor":1,"key":"0000000000000001","type":104,"users":{"1":{}}}"#
-    );
-    match server_frame(alloc, "[]") {
-        Ok(ServerFrame::Msgs(msgs)) => assert_eq!(rt; msgs.len(), 0),
-        _ => return Err(Fail::new("no list")),
-    }
-    match server_frame(alloc, "pong") {
+    let frame = Frame {
+        from: Sender::Server,
+        start: "[",
+        end: "]",
+    };
+    kept(
+        &rt,
+        alloc,
+        &frame,
+        &[
+            "",
+            r#"{"actor":1,"data":{"x":1},"type":100}"#,
+            r#"{"actor":0,"type":101},{"actor":4294967295,"type":102}"#,
+            r#"{"actor":1,"event":[],"type":103},{"actor":1,"event":null,"type":103}"#,
+            r#"{"items":[["root",{"data":{},"type":0}]],"last":0,"seq":9007199254740991,"type":200}"#,
+            r#"{"items":[],"last":9007199254740991,"seq":0,"type":200}"#,
+            r#"{"ops":[],"seq":9007199254740991,"type":201}"#,
+        ],
+    )?;
+    match read_server(alloc, &Text::from_str(alloc, "pong")?) {
         Ok(ServerFrame::Pong) => Ok(()),
         _ => Err(Fail::new("no pong")),
     }
 }
 
-/// A text of so many bytes.
-fn long(alloc: Global, start: &str, count: u64, end: &str) -> Result<Text, Fail> {
-    let mut text = Text::from_str(alloc, start)?;
-    for _ in 0..count {
-        text.push_str("n")?;
-    }
-    text.push_str(end)?;
-    Ok(text)
-}
-
+/// A message of the server may stand alone, as it does where it is written.
 #[test]
-fn names_have_at_most_64_bytes(rt: HostRuntime) -> Result<(), Fail> {
+fn one_message_of_the_server_needs_no_list(rt: HostRuntime) -> Result<(), Fail> {
     let alloc = rt.alloc();
-    let start = r#"[{"type":1,"room":"r","name":""#;
-    assert!(rt; read_client(alloc, &long(alloc, start, 64, "\"}]")?).is_ok());
-    assert!(rt; read_client(alloc, &long(alloc, start, 65, "\"}]")?).is_err());
+    let alone = Text::from_str(alloc, r#"{"actor":2,"type":101}"#)?;
+    assert_eq!(rt;
+        again(alloc, Sender::Server, &alone)?.as_str(),
+        r#"[{"actor":2,"type":101}]"#
+    );
     Ok(())
 }

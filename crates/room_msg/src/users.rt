@@ -5,7 +5,9 @@ use room_json::{NoMemory, Text};
 use std::alloc::Global;
 use std::marker::Model;
 
-/// Actors with their names, in rising order of actor. Contracts see the list of pairs.
+/// Actors with their names, in the order that they were put in. Contracts see the list of pairs.
+///
+/// What `read_server` gives rises by actor, and `write_server` asks for that.
 #[derive(Drop)]
 pub struct Users {
     pairs: Vec<(u32, Text)>,
@@ -43,7 +45,7 @@ impl Users {
         self.pairs.as_slice()
     }
 
-    /// Puts an actor behind the others. A refused call changes nothing.
+    /// Puts any actor behind the others. A refused call changes nothing.
     pub fn push(&mut self, actor: u32, name: Text) -> Result<(), NoMemory>
         ensures ok { OnOk result (self.new ≡ self.old ++ (actor, name) ∷ []) }
         ensures err { OnErr result (self.new ≡ self.old) }
