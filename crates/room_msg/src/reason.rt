@@ -9,7 +9,7 @@ pub enum Reason {
     Json,
     /// It nests over 60 levels, and not over 127.
     Depth,
-    /// It holds a number that isn't whole or is outside -(2^53-1) to 2^53-1.
+    /// It holds a number that isn't written as a whole number, or is outside -(2^53-1) to 2^53-1.
     Number,
     /// A client frame is no list, or a server frame is neither an object nor a list.
     List,

@@ -113,6 +113,14 @@ impl Frame<'_> {
     }
 }
 
+/// Appends a piece so many times.
+fn repeat(text: &mut Text, piece: &str, count: u64) -> Result<(), NoMemory> {
+    for _ in 0..count {
+        text.push_str(piece)?;
+    }
+    Ok(())
+}
+
 /// The reason of a refusal in words.
 fn words(alloc: Global, reason: &Reason) -> Result<Text, NoMemory> {
     match reason {

@@ -127,9 +127,7 @@ fn a_hello_may_have_a_name_and_a_pass(rt: HostRuntime) -> Result<(), Fail> {
 /// A name of so many pieces.
 fn name_of(alloc: Global, piece: &str, count: u64) -> Result<Text, NoMemory> {
     let mut name = Text::new(alloc);
-    for _ in 0..count {
-        name.push_str(piece)?;
-    }
+    repeat(&mut name, piece, count)?;
     Ok(name)
 }
 

@@ -1,13 +1,5 @@
 use super::*;
 
-/// Appends a piece so many times.
-fn repeat(text: &mut Text, piece: &str, count: u64) -> Result<(), NoMemory> {
-    for _ in 0..count {
-        text.push_str(piece)?;
-    }
-    Ok(())
-}
-
 /// A frame of so many bytes, filled up in its gap.
 fn sized(alloc: Global, frame: &Frame<'_>, filler: &str, size: u64) -> Result<Text, NoMemory> {
     let mut text = Text::from_str(alloc, frame.start)?;
@@ -146,7 +138,15 @@ fn reasons_come_in_their_order(rt: HostRuntime) -> Result<(), Fail> {
         let pieces = ["1.5", "[1.5]", r#"[{"type":7,"x":1.5}]"#];
         all_come_to(&rt, alloc, &frame, "number", &pieces)?;
     }
-    Ok(())
+    let object = Frame {
+        from: Sender::Client,
+        start: r#"{"a":"#,
+        end: "}",
+    };
+    let inner = nested(alloc, 60, "1.5")?;
+    all_come_to(&rt, alloc, &object, "depth", &[inner.as_str()])?;
+    all_come_to(&rt, alloc, &object, "number", &["1.5", "[1.5]"])?;
+    all_come_to(&rt, alloc, &object, "list", &["1", "[1]"])
 }
 
 #[test]
