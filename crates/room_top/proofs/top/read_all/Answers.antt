@@ -5,4 +5,6 @@ use Rattle.room_top.proofs.top.read_all.Goals as goal
 -- what was read and not kept is taken too
 pub returns-then-is_err-clause-takes : goal.returns-then-is_err-clause-takes
 returns-then-is_err-clause-takes g c =
-    (c.loop-buffer.bytes.items ++ take c.in-Ok.count c.read.new.into, grind (arith, length-append, length-take), Consumes-trans _ _ _ _ _ c.loop-buffer.invariant.0 c.in-Ok.ensures.bytes.0)
+    let kept = c.loop-buffer.bytes.items in
+    let read = take c.in-Ok.count c.read.new.into in
+    (kept ++ read, omega (arith, length-append kept read, length-take c.in-Ok.count c.read.new.into, length-take c.min-room.result c.loop-buffer.buffer, c.read.auto.into, c.min-room.ensures), Consumes-trans _ _ _ _ _ c.loop-buffer.invariant.0 c.in-Ok.ensures.bytes.0)
