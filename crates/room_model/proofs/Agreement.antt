@@ -21,8 +21,9 @@ use Rattle.room_nodes.proofs.Fitting.{some_of}
 use Rattle.room_nodes.proofs.Gets.{get_here, get_other, here_or_old, one_or_two, same_self, some_inj, true_false}
 use Rattle.room_nodes.proofs.StepForm.{at_node}
 use Rattle.room_nodes.proofs.Steps.{neither, not_false, can_set_key, formed-step}
+use Rattle.room_model.proofs.Booleans.{or_left, none_of_both}
 use Rattle.room_model.proofs.Alike.{Alike, alike_some, has_room_same, holds_list_same, holds_object_same, parent_same, some_same, under_same}
-use Rattle.room_model.proofs.Covering.{Agrees-append, or_left, none_of_both}
+use Rattle.room_model.proofs.Covering.{Agrees-append}
 use Rattle.room_model.proofs.Creations.{out_by, out_of, placed_same, framed_create, local_in_list, local_at_key}
 use Rattle.room_model.proofs.Touching.{Framed, Kept, cover_more, cover_refl}
 use Rattle.room_model.proofs.Framing.{node_put, slot_put}

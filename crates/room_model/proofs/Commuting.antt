@@ -21,9 +21,10 @@ use Rattle.room_nodes.proofs.Fitting.{both, not_true}
 use Rattle.room_nodes.proofs.Steps.{formed-step, formed-fold}
 use Rattle.room_model.specs.Laws.{Outside, Footprints}
 use Rattle.room_model.specs.Ordered.{AreOrderedBodies, IsOrderedKind, IsOrderedTree}
+use Rattle.room_model.proofs.Booleans.{by_no, or_parts, or_left, or_right, none_of_both, and_parts, and_both, and_false}
 use Rattle.room_model.proofs.Agreement.{framed, local}
 use Rattle.room_model.proofs.Alike.{Alike, parent_alike, key_alike}
-use Rattle.room_model.proofs.Covering.{Agrees-append, and_both, and_parts, covered-append, none_of_both, or_left, or_parts, or_right, same_name}
+use Rattle.room_model.proofs.Covering.{Agrees-append, covered-append, same_name}
 use Rattle.room_model.proofs.Fields.{key_self, same_fields}
 use Rattle.room_model.proofs.Touching.{Framed, Kept, CoverSame, cover-append, cover_refl, framed_then, kept_then}
 use Rattle.room_model.proofs.OrderedSteps.{ordered_step}
@@ -71,17 +72,9 @@ alike_fold t u f g bs h = agrees_kept t u (fold t bs) (fold u bs) (kept_fold t u
 
 same_sym : (x y : NodeId) → is_same x y ≡ false → is_same y x ≡ false
 same_sym x y e = by_no (is_same y x) (λ h. true_false (sym (same_self x) ∙ ap (is_same x) (sym (same y x h)) ∙ e))
-  where
-    by_no : (b : Bool) → (b ≡ true → ⊥) → b ≡ false
-    by_no true h = absurd (h refl)
-    by_no false h = refl
 
 name_sym : (j k : List ℕ) → eq_by_cmp (slice_cmp nat_cmp) j k ≡ true → eq_by_cmp (slice_cmp nat_cmp) k j ≡ true
 name_sym j k e = ap (eq_by_cmp (slice_cmp nat_cmp) k) (same_name j k e) ∙ key_self k
-
-and_false : (a b : Bool) → a ≡ false → (a && b) ≡ false
-and_false true b e = cc
-and_false false b e = refl
 
 both_sym : (x y : NodeId) (j k : List ℕ) → (is_same x y && eq_by_cmp (slice_cmp nat_cmp) j k) ≡ false → (is_same y x && eq_by_cmp (slice_cmp nat_cmp) k j) ≡ false
 both_sym x y j k e = off_by _ refl

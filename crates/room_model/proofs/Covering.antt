@@ -13,29 +13,7 @@ use Rattle.room_nodes.specs.declared.nodes.Node.{Node}
 use Rattle.room_nodes.proofs.Children.{entry_of, answer_of, text_exact}
 use Rattle.room_nodes.proofs.Gets.{same, same_self, true_false}
 use Rattle.room_nodes.proofs.Listing.{Has, is_equal}
-
-pub or_parts : (a b : Bool) → (a || b) ≡ true → (a ≡ true) ⊎ (b ≡ true)
-or_parts true b e = inl refl
-or_parts false b e = inr e
-
-pub or_left : (a b : Bool) → a ≡ true → (a || b) ≡ true
-or_left true b e = refl
-or_left false b e = cc
-
-pub or_right : (a b : Bool) → b ≡ true → (a || b) ≡ true
-or_right true b e = refl
-or_right false b e = e
-
-pub none_of_both : (a b : Bool) → (a || b) ≡ false → (a ≡ false) × (b ≡ false)
-none_of_both true b e = cc
-none_of_both false b e = (refl, e)
-
-pub and_parts : (a b : Bool) → (a && b) ≡ true → (a ≡ true) × (b ≡ true)
-and_parts true b e = (refl, e)
-and_parts false b e = cc
-
-pub and_both : (a b : Bool) → a ≡ true → b ≡ true → (a && b) ≡ true
-and_both a b p q = rw (p, q) refl
+use Rattle.room_model.proofs.Booleans.{or_parts, or_left, or_right, and_parts, both_ways}
 
 pub same_name : (j k : List ℕ) → eq_by_cmp (slice_cmp nat_cmp) j k ≡ true → j ≡ k
 same_name j k e = text_exact j k (is_equal _ e)
@@ -152,11 +130,6 @@ module _ (t : Nodes) (y : NodeId) where
 
   pub slot_hit : (q : NodeId) (k : List ℕ) → overlaps_some (Slot q k) (removal_cells t y) ≡ true → is_hit t y q ≡ true
   slot_hit q k m = hit_among (Slot q k) q (slot_tells q k) (entries t) (λ e h. answer_of t e h) m
-
-  both_ways : (a b : Bool) → (a ≡ true → b ≡ true) → (b ≡ true → a ≡ true) → a ≡ b
-  both_ways true b to from = sym (to refl)
-  both_ways false true to from = from refl
-  both_ways false false to from = refl
 
   pub node_covered : (q : NodeId) → overlaps_some (NodeOf q) (removal_cells t y) ≡ is_hit t y q
   node_covered q = both_ways _ _ (node_hit q) (covers_node q)

@@ -22,10 +22,10 @@ use Rattle.room_nodes.proofs.Formed.{formed-insert, formed-removed}
 use Rattle.room_nodes.proofs.Gets.{get_kept, kept, same, same_self, some_inj, some_none, true_false}
 use Rattle.room_nodes.proofs.StepForm.{formed-cleared, free-create, effect-create}
 use Rattle.room_nodes.proofs.Steps.{neither, not_false, room_there, second, list_or_not, pruned, free-create_in_list, effect-create_in_list}
+use Rattle.room_model.proofs.Booleans.{by_no, or_left, or_right}
 use Rattle.room_model.proofs.Alike.{Alike, depth_same, holds_list_same, holds_object_same}
 use Rattle.room_model.proofs.Changing.{Acts, node_kept, slot_kept}
-use Rattle.room_model.proofs.Covering.{or_left, or_right}
-use Rattle.room_model.proofs.Cutting.{by_no, siblings_apart}
+use Rattle.room_model.proofs.Cutting.{siblings_apart}
 use Rattle.room_model.proofs.Touching.{Framed, Kept, CoverSame, IsOut, framed_then, kept_then, cover_more, cover_slot, cover_out_at, covered_out, gone_at_out, own_slot}
 use Rattle.room_model.proofs.Framing.{Covered, node_framed, slot_framed, node_beside, slot_beside, node_put, slot_put, gone_of, plain, acts_without}
 use Rattle.room_model.proofs.Kin.{IsChild, carried, same_child, same_children}

@@ -1,5 +1,5 @@
 -- A tree without the children of a node at some keys, and what lies below them.
-use Rattle.std.proofs.Common.{◌≡◌, ◌≢◌, ◌⊎◌, inl, inr, ℕ, zero, suc, Bool, true, false, ◌||◌, List, [], ◌∷◌, Option, Some, None, refl, sym, ap, ◌∙◌, arith}
+use Rattle.std.proofs.Common.{◌≡◌, ◌≢◌, ◌⊎◌, inl, inr, ℕ, zero, suc, true, false, ◌||◌, List, [], ◌∷◌, Option, Some, None, refl, sym, ap, ◌∙◌, arith}
 use Rattle.std.specs.FinMap.{get}
 use Rattle.room_ids.specs.Order.{is_same}
 use Rattle.room_ids.specs.declared.ids.NodeId.{NodeId}
@@ -12,14 +12,7 @@ use Rattle.room_nodes.proofs.Children.{child_at_none, child_at_some}
 use Rattle.room_nodes.proofs.Fitting.{the_parent, the_root}
 use Rattle.room_nodes.proofs.Formed.{formed-removed}
 use Rattle.room_nodes.proofs.Gets.{get_kept, kept, one_or_two, same, some_inj, some_none, true_false}
-
-or_parts : (a b : Bool) → (a || b) ≡ true → (a ≡ true) ⊎ (b ≡ true)
-or_parts true b e = inl refl
-or_parts false b e = inr e
-
-pub by_no : (b : Bool) → (b ≡ true → ⊥) → b ≡ false
-by_no true h = absurd (h refl)
-by_no false h = refl
+use Rattle.room_model.proofs.Booleans.{by_no, or_parts}
 
 -- u is t without some nodes: what lies below a node of u lay there before
 module _ (t u : Nodes) (g : IsFormed u) (part : (q : NodeId) (m : Node) → get u q ≡ Some m → get t q ≡ Some m) where

@@ -18,6 +18,7 @@ use Rattle.room_nodes.proofs.Children.{text_exact}
 use Rattle.room_nodes.proofs.StepForm.{FieldsOf}
 use Rattle.room_model.specs.Ordered.{AreOrdered}
 use Rattle.room_model.specs.Reversal.{field_in, old_field, old_fields}
+use Rattle.room_model.proofs.Booleans.{by_no}
 
 -- the order as a test
 
@@ -66,10 +67,6 @@ same_fields es fs g h is = same_entries (slice_cmp nat_cmp) nat_list_cmp_total t
 
 pub key_self : (k : List ℕ) → eq_by_cmp (slice_cmp nat_cmp) k k ≡ true
 key_self k = ap is_eq (tied_itself nat_list_cmp_total k)
-
-by_no : (b : Bool) → (b ≡ true → ⊥) → b ≡ false
-by_no true h = absurd (h refl)
-by_no false h = refl
 
 key_apart : (q k : List ℕ) → q ≢ k → eq_by_cmp (slice_cmp nat_cmp) q k ≡ false
 key_apart q k n = by_no (eq_by_cmp (slice_cmp nat_cmp) q k) (λ e. n (text_exact q k (is_equal _ e)))

@@ -18,10 +18,10 @@ use Rattle.room_nodes.specs.declared.nodes.Kind.TheVariants.{Object, List as Lis
 use Rattle.room_nodes.specs.declared.nodes.Node.{Node}
 use Rattle.room_nodes.proofs.Gets.{get_here, get_other, get_removed, here_or_old, one_or_two, same, same_self, differ, some_none, true_false}
 use Rattle.room_nodes.proofs.StepForm.{FieldsOf}
+use Rattle.room_model.proofs.Booleans.{by_no}
 use Rattle.room_model.proofs.Alike.{Alike, bare_fields, parent_alike, key_alike}
 use Rattle.room_model.proofs.Changing.{Acts, edited, edited_by, stays_there, was_there, child_was, child_stays}
 use Rattle.room_model.proofs.Covering.{is_hit}
-use Rattle.room_model.proofs.Cutting.{by_no}
 use Rattle.room_model.proofs.Kin.{IsChild, carried, same_child}
 
 abbrev found_in : List ℕ → Option Node → Option Value

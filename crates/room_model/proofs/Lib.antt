@@ -1,5 +1,6 @@
 mod Agreement
 mod Alike
+mod Booleans
 mod Changing
 mod ClocksKept
 mod Commuting

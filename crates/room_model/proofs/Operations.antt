@@ -22,9 +22,10 @@ use Rattle.room_nodes.proofs.Formed.{formed-removed}
 use Rattle.room_nodes.proofs.Gets.{same_self, some_inj, true_false}
 use Rattle.room_nodes.proofs.StepForm.{FieldsOf, at_node, object_there, cut_child, cut_children, formed-cleared, formed-update}
 use Rattle.room_nodes.proofs.Steps.{neither, not_false}
+use Rattle.room_model.proofs.Booleans.{or_left, or_right, none_of_both}
 use Rattle.room_model.proofs.Alike.{Alike, parent_same, key_same, holds_list_same, holds_object_same}
 use Rattle.room_model.proofs.Changing.{Acts, IsByName, node_kept, slot_kept}
-use Rattle.room_model.proofs.Covering.{covered-append, or_left, or_right, none_of_both}
+use Rattle.room_model.proofs.Covering.{covered-append}
 use Rattle.room_model.proofs.Fields.{Named, beside_without, find_without, with_beside}
 use Rattle.room_model.proofs.Touching.{Framed, Kept, CoverSame, IsOut, child_out, covered_out, covered_slot, covered_slots, cover_more, cover_out, cover_refl, cover_slot, cover_slots, gone_at_out, gone_same, gones_same, left_at, own_slot}
 use Rattle.room_model.proofs.Framing.{AreKept, Covered, node_framed, slot_framed, gone_of, gone_at, plain, acts_plain, acts_then, acts_without}

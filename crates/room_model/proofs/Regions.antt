@@ -1,5 +1,5 @@
 -- What lies below a node, in two trees that agree on it.
-use Rattle.std.proofs.Common.{◌≡◌, ◌≢◌, inl, inr, ℕ, zero, suc, Bool, true, false, List, Some, refl, sym, ap, ◌∙◌, arith}
+use Rattle.std.proofs.Common.{◌≡◌, ◌≢◌, inl, inr, ℕ, zero, suc, true, List, Some, refl, sym, ap, ◌∙◌, arith}
 use Rattle.std.specs.FinMap.{get}
 use Rattle.room_ids.specs.Order.{is_same}
 use Rattle.room_ids.specs.declared.ids.NodeId.{NodeId}
@@ -10,14 +10,10 @@ use Rattle.room_nodes.specs.declared.nodes.Node.{Node}
 use Rattle.room_nodes.proofs.Below.{below_root, below_self, below_step}
 use Rattle.room_nodes.proofs.Fitting.{the_parent}
 use Rattle.room_nodes.proofs.Gets.{same, true_false}
+use Rattle.room_model.proofs.Booleans.{or_parts, or_right, both_ways}
 use Rattle.room_model.proofs.Alike.{Alike, alike_some, parent_alike}
-use Rattle.room_model.proofs.Covering.{or_parts, or_right, is_hit, hit_is, hit_of, covers_node, covers_slot, on_node, on_slot}
+use Rattle.room_model.proofs.Covering.{is_hit, hit_is, hit_of, covers_node, covers_slot, on_node, on_slot}
 use Rattle.room_model.proofs.Kin.{child_of, found}
-
-pub both_ways : (a b : Bool) → (a ≡ true → b ≡ true) → (b ≡ true → a ≡ true) → a ≡ b
-both_ways true b to from = sym (to refl)
-both_ways false true to from = from refl
-both_ways false false to from = refl
 
 module _ (t u : Nodes) (f : IsFormed t) (g : IsFormed u) (y : NodeId) (m : Node) (here : get t y ≡ Some m) (made : y ≢ Root) (agree : Agrees t u (removal_cells t y)) where
   pub node_agrees : (q : NodeId) → is_hit t y q ≡ true → Alike (get t q) (get u q)

@@ -24,6 +24,7 @@ use Rattle.room_items.specs.Preorder.{preorder, preorder_within}
 use Rattle.room_items.proofs.Tours.{tour_under, is_within, has_below}
 use Rattle.room_items.proofs.Walks.{Walk, Step}
 use Rattle.room_model.specs.Reversal.{creation, creations, node_restored}
+use Rattle.room_model.proofs.Booleans.{where_so}
 use Rattle.room_model.proofs.Fields.{without_none}
 
 -- a step that isn't void is its effect
@@ -121,10 +122,6 @@ pub fold-append : (t : Nodes) (cs bs : List Body) → fold t (cs ++ bs) ≡ fold
 fold-append t [] bs = refl
 fold-append t (c ∷ cs) bs = fold-append (step t c) cs bs
 
-place_of_list : (b c : Bool) → (not b || c) ≡ true → b ≡ true → c ≡ true
-place_of_list true c e h = e
-place_of_list false c e h = cc
-
 -- what a walk has: each of it is new when it comes, and stands in the tree
 
 pub walk_fresh : (t : Nodes) (y : NodeId) (xs done : List NodeId) → Walk t done xs → Has y xs → Has y done → ⊥
@@ -162,7 +159,7 @@ module _ (t : Nodes) (f : IsFormed t) where
         let p = the_parent t f x s.node s.made s.there in
         let fit : Fits p.0 s.node = p.2 in
         let up : get u s.node.parent ≡ Some p.0 = a.here s.node.parent s.parent ∙ p.1 in
-        created_plain u x s.node.parent s.node.key s.node.kind p.0 gone up fit.holds (omega (arith, fit.depth, fit.deep)) (no_child _ refl) (place_of_list (is_list p.0.kind) _ fit.place) fit.plain
+        created_plain u x s.node.parent s.node.key s.node.kind p.0 gone up fit.holds (omega (arith, fit.depth, fit.deep)) (no_child _ refl) (where_so (is_list p.0.kind) _ fit.place) fit.plain
         ∙ ap (λ (d : ℕ). insert u x (record s.node { depth = d })) (sym fit.depth)
 
     follows_next : Follows (insert u x s.node) (x ∷ done)
@@ -244,7 +241,7 @@ module _ (t : Nodes) (f : IsFormed t) where
         let v = insert u y n in
         let part : (q : NodeId) (m : Node) → get u q ≡ Some m → (o : Node) × (get t q ≡ Some o) × (m.parent ≡ o.parent) × (m.key ≡ o.key) = λ q m e. (m, (kept t y q m e).0, refl, refl) in
         let first : step u (Create y n.parent n.key None n.kind) ≡ v =
-        created_plain u y n.parent n.key n.kind p.0 gone up fit.holds (omega (arith, fit.depth, fit.deep)) (no_child_left _ refl) (place_of_list (is_list p.0.kind) _ fit.place) fit.plain
+        created_plain u y n.parent n.key n.kind p.0 gone up fit.holds (omega (arith, fit.depth, fit.deep)) (no_child_left _ refl) (where_so (is_list p.0.kind) _ fit.place) fit.plain
         ∙ ap (λ (d : ℕ). insert u y (record n { depth = d })) (sym fit.depth) in
         let beside : (q : NodeId) → Has q under → q ≢ y = λ q h e. walk_fresh t q under (y ∷ []) (tour_under t f y) h (inl (sym e)) in
         let r = restore v (record {

@@ -28,6 +28,7 @@ use Rattle.room_nodes.proofs.Undoing.{parent_other}
 use Rattle.room_model.specs.Laws.{Reversible}
 use Rattle.room_model.specs.Ordered.{AreOrdered, IsOrderedBody, IsOrderedKind, IsOrderedTree}
 use Rattle.room_model.specs.Reversal.{child_restored, displaced, field_in, field_of_node, key_restored, node_restored, replaced_restored, reverse, reverse_all, reversed, slot_or, slot_restored}
+use Rattle.room_model.proofs.Booleans.{where_so}
 use Rattle.room_model.proofs.Fields.{put_back}
 use Rattle.room_model.proofs.OrderedSteps.{ordered_step}
 use Rattle.room_model.proofs.Restoring.{step_acts, step_void, put_same, put_twice, without_node, restored, fold-append}
@@ -199,14 +200,10 @@ module _ (t : Nodes) (f : IsFormed t) (o : IsOrderedTree t) where
     is_list_there : holds_list (get t n.parent) ≡ true
     is_list_there = ap (λ y. holds_list (get t y)) (sym up_was) ∙ (can_set_key t f x k e).list
 
-    place_of_list : (b c : Bool) → (not b || c) ≡ true → b ≡ true → c ≡ true
-    place_of_list true c h g = h
-    place_of_list false c h g = cc
-
     old_pos : is_pos n.key ≡ true
     old_pos =
         let p = the_parent t f x n made there in
-        place_of_list (is_list p.0.kind) _ p.2.place (ap holds_list (sym p.1) ∙ is_list_there)
+        where_so (is_list p.0.kind) _ p.2.place (ap holds_list (sym p.1) ∙ is_list_there)
 
     short : nat_le (length n.key) 4096 ≡ true
     short = (both (nat_le (length n.key) 4096) _ (both (is_some_text n.key) _ old_pos).1).0

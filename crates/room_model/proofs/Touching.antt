@@ -16,8 +16,9 @@ use Rattle.room_nodes.proofs.Below.{below_step}
 use Rattle.room_nodes.proofs.Fitting.{the_parent}
 use Rattle.room_nodes.proofs.Gets.{same, same_self, some_inj, some_none, true_false}
 use Rattle.room_nodes.proofs.StepForm.{FieldsOf}
+use Rattle.room_model.proofs.Booleans.{or_parts, or_left, or_right, none_of_both, and_both}
 use Rattle.room_model.proofs.Alike.{Alike}
-use Rattle.room_model.proofs.Covering.{Agrees-append, covered-append, or_left, or_right, or_parts, none_of_both, and_both, is_hit, hit_is, hit_of, covers_node, covers_slot, node_covered, slot_covered}
+use Rattle.room_model.proofs.Covering.{Agrees-append, covered-append, is_hit, hit_is, hit_of, covers_node, covers_slot, node_covered, slot_covered}
 use Rattle.room_model.proofs.Cutting.{cut, IsSpared}
 use Rattle.room_model.proofs.Fields.{key_self}
 use Rattle.room_model.proofs.Framing.{Covered, gone_of, gone_at}

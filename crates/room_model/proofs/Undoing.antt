@@ -30,10 +30,11 @@ use Rattle.room_items.proofs.Tours.{is_within, tour_under}
 use Rattle.room_model.specs.Laws.{UndoRestores}
 use Rattle.room_model.specs.Ordered.{AreOrderedBodies, IsOrderedTree}
 use Rattle.room_model.specs.Reversal.{child_restored, creation, creations, displaced, field_in, field_of_node, gone_or, key_restored, node_restored, old_field, old_fields, old_update, other_name, other_names, replaced_restored, reverse, reverse_all, reversed, slot_or, slot_restored}
+use Rattle.room_model.proofs.Booleans.{or_right}
 use Rattle.room_model.proofs.Agreement.{create_both, create_out, local, void_same}
 use Rattle.room_model.proofs.Alike.{by_alike, holds_list_same, key_alike}
 use Rattle.room_model.proofs.Commuting.{agrees_kept, agrees_off, either_order, framed_fold, one_node, ordered_fold}
-use Rattle.room_model.proofs.Covering.{Agrees-append, is_hit, hit_is, hit_of, or_right}
+use Rattle.room_model.proofs.Covering.{Agrees-append, is_hit, hit_is, hit_of}
 use Rattle.room_model.proofs.Creations.{cells_is, out_by, out_is, out_of}
 use Rattle.room_model.proofs.Kin.{same_children}
 use Rattle.room_model.proofs.Operations.{writes_by}

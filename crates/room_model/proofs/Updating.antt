@@ -24,7 +24,8 @@ use Rattle.room_nodes.proofs.Undoing.{parent_other}
 use Rattle.room_items.proofs.Tours.{tour_under}
 use Rattle.room_model.specs.Ordered.{AreOrdered}
 use Rattle.room_model.specs.Reversal.{creations, node_restored, child_restored, field_in, field_of_node, old_fields, old_update, gone_or, other_name, other_names, reversed}
-use Rattle.room_model.proofs.Cutting.{by_no, siblings_apart, IsNamed, IsSpared, IsCut, cut}
+use Rattle.room_model.proofs.Booleans.{by_no}
+use Rattle.room_model.proofs.Cutting.{siblings_apart, IsNamed, IsSpared, IsCut, cut}
 use Rattle.room_model.proofs.Fields.{Named, olds, olds_are, olds_named, cleaned, cleaned_by, restored_fields, sorted_of, ordered_of}
 use Rattle.room_model.proofs.Restoring.{step_acts, put_same, put_twice, created, fold-append, walk_fresh, walk_stands, Follows, Rebuilt, restore, under, has_under, under_is_below, restored_is}
 
