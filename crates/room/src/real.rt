@@ -16,7 +16,8 @@ pub struct Reading<R> {
 impl<R: Read> Reading<R> {
     /// A source over a reader, with no fault yet.
     pub fn new(inner: R) -> Reading<R>
-        ensures { result.faults ≡ 0 }
+        ensures inner { result.inner ≡ inner }
+        ensures faults { result.faults ≡ 0 }
     {
         Reading { inner, faults: 0 }
     }
@@ -55,7 +56,8 @@ pub struct Writing<W> {
 impl<W: Write> Writing<W> {
     /// A sink over a writer, with no fault yet.
     pub fn new(inner: W) -> Writing<W>
-        ensures { result.faults ≡ 0 }
+        ensures inner { result.inner ≡ inner }
+        ensures faults { result.faults ≡ 0 }
     {
         Writing { inner, faults: 0 }
     }
