@@ -31,7 +31,7 @@ no_text (c ∷ cs) h = cc
 tree_by : (kind : Kind) (rows : List Row) (v : Nodes) → is_object kind ≡ true → put_rows (root_of kind) rows ≡ Some v → preorder v Root ≡ Root ∷ map row_id rows → tree_under kind rows ≡ Some v
 tree_by kind rows v o p q = rw (o, p, q, same_ids_self (Root ∷ map row_id rows)) refl
 
-walk_there : (t : Nodes) (y : NodeId) (xs done : List NodeId) → Walk t done xs → Has y xs → (n : Node) × (get t y ≡ Some n)
+pub walk_there : (t : Nodes) (y : NodeId) (xs done : List NodeId) → Walk t done xs → Has y xs → (n : Node) × (get t y ≡ Some n)
 walk_there t y [] done w h = absurd h
 walk_there t y (x ∷ xs) done w h = elim h [
   | inl e ↦ (w.0.node, ap (get t) (sym e) ∙ w.0.there)

@@ -125,7 +125,7 @@ module _ (g : FieldsOf → FieldsOf) (local : IsByName g) (k : List ℕ) where
   changed_same (Some m) None h e = sym (none_object m.kind (sym h))
   changed_same (Some m) (Some n) h e = kinds_same m.kind n.kind h e
 
-map_same : (o : Option Node) → option_map (λ (n : Node). n) o ≡ o
+pub map_same : (o : Option Node) → option_map (λ (n : Node). n) o ≡ o
 map_same None = refl
 map_same (Some n) = refl
 

@@ -20,7 +20,7 @@ use Rattle.room_nodes.proofs.Gets.{get_here, get_other, get_removed, here_or_old
 use Rattle.room_nodes.proofs.StepForm.{FieldsOf}
 use Rattle.room_model.proofs.Booleans.{by_no}
 use Rattle.room_model.proofs.Alike.{Alike, bare_fields, parent_alike, key_alike}
-use Rattle.room_model.proofs.Changing.{Acts, edited, edited_by, stays_there, was_there, child_was, child_stays}
+use Rattle.room_model.proofs.Changing.{Acts, edited, edited_by, map_same, stays_there, was_there, child_was, child_stays}
 use Rattle.room_model.proofs.Covering.{is_hit}
 use Rattle.room_model.proofs.Kin.{IsChild, carried, same_child}
 
@@ -200,7 +200,3 @@ acts_then t u gone x g n a e = record {
         ∙ sym (ap (λ b. option_map (edited_by b g) (cond (gone q) None (get t q))) (differ q x d) ∙ map_same (cond (gone q) None (get t q)))
   ];
 }
-  where
-    map_same : (o : Option Node) → option_map (λ (n : Node). n) o ≡ o
-    map_same None = refl
-    map_same (Some n) = refl

@@ -21,6 +21,7 @@ use Rattle.room_nodes.proofs.Gets.{some_none, same, one_or_two, get_here, get_ot
 use Rattle.room_nodes.proofs.Listing.{Has}
 use Rattle.room_nodes.proofs.StepForm.{at_node}
 use Rattle.room_items.specs.Preorder.{preorder, preorder_within}
+use Rattle.room_items.proofs.Spells.{walk_there}
 use Rattle.room_items.proofs.Tours.{tour_under, is_within, has_below}
 use Rattle.room_items.proofs.Walks.{Walk, Step}
 use Rattle.room_model.specs.Reversal.{creation, creations, node_restored}
@@ -129,13 +130,6 @@ walk_fresh t y [] done w h g = h
 walk_fresh t y (x ∷ xs) done w h g = elim h [
   | inl e ↦ w.0.fresh (subst (λ z. Has z done) (sym e) g)
   | inr m ↦ walk_fresh t y xs (x ∷ done) w.1 m (inr g)
-]
-
-pub walk_stands : (t : Nodes) (y : NodeId) (xs done : List NodeId) → Walk t done xs → Has y xs → (n : Node) × (get t y ≡ Some n)
-walk_stands t y [] done w h = absurd h
-walk_stands t y (x ∷ xs) done w h = elim h [
-  | inl e ↦ (w.0.node, ap (get t) (sym e) ∙ w.0.there)
-  | inr m ↦ walk_stands t y xs (x ∷ done) w.1 m
 ]
 
 module _ (t : Nodes) (f : IsFormed t) where
@@ -259,7 +253,7 @@ module _ (t : Nodes) (f : IsFormed t) where
           | inl e ↦ r.old q (λ h. beside q h e) ∙ ap (get v) e ∙ get_here u y n ∙ sym there ∙ ap (get t) (sym e)
           | inr other ↦ elim (get t q) as (λ o. get t q ≡ o → get r.tree q ≡ get t q) [
             | None ↦ λ e.
-                r.old q (λ h. let w = walk_stands t q under (y ∷ []) (tour_under t f y) h in some_none w.0 (sym w.1 ∙ e))
+                r.old q (λ h. let w = walk_there t q under (y ∷ []) (tour_under t f y) h in some_none w.0 (sym w.1 ∙ e))
                 ∙ get_other u y n q other
                 ∙ elim (get u q) as (λ o. get u q ≡ o → get u q ≡ get t q) [
                   | None ↦ λ g. g ∙ sym e

@@ -1,5 +1,5 @@
 -- No step makes a tree's values deeper than those of the operation and of the tree.
-use Rattle.std.proofs.Common.{◌≡◌, ◌+◌, inl, inr, ℕ, Bool, true, false, ◌&&◌, ◌||◌, not, cond, List, [], ◌∷◌, Option, Some, None, Ordering, Less, Equal, Greater, refl, ap, ◌∙◌, nat_le}
+use Rattle.std.proofs.Common.{◌≡◌, ◌+◌, inl, inr, ℕ, Bool, true, false, ◌||◌, not, cond, List, [], ◌∷◌, Option, Some, None, Ordering, Less, Equal, Greater, refl, ap, ◌∙◌, nat_le}
 use Rattle.std.specs.Ordering.{nat_cmp, eq_by_cmp, match_ordering}
 use Rattle.std.specs.Cmp.Lexicographic.{slice_cmp}
 use Rattle.std.specs.FinMap.{get, insert, put}
@@ -15,16 +15,10 @@ use Rattle.room_nodes.specs.Shape.{Nodes, child_at, removed, is_list, up}
 use Rattle.room_nodes.specs.Steps.{step, fold, is_void, effect, settled_body, changed, changed_at, on_fields, fields_kind, with_fields, without_field, without, without_child, without_children, without_replaced, is_under, cleared, holds_list, settled_key, depth_in}
 use Rattle.room_nodes.proofs.Gets.{kept, here_or_old}
 use Rattle.room_model.specs.Valid.{are_shallow, is_shallow_kind, is_shallow, AreShallow}
+use Rattle.room_model.proofs.Booleans.{and_parts, and_both}
 
 abbrev pub IsShallowTree : Nodes → Type 0
 IsShallowTree t = (x : NodeId) (n : Node) → get t x ≡ Some n → is_shallow_kind n.kind ≡ true
-
-both : (a b : Bool) → (a && b) ≡ true → (a ≡ true) × (b ≡ true)
-both true b p = (refl, p)
-both false b p = cc
-
-and_true : (a b : Bool) → a ≡ true → b ≡ true → (a && b) ≡ true
-and_true a b p q = rw (p, q) refl
 
 -- fields
 
@@ -33,25 +27,25 @@ Shallow fs = are_shallow fs ≡ true
 
 put_by : (o : Ordering) (k : List ℕ) (v : Value) (e : List ℕ × Value) (es more : List (List ℕ × Value)) → nat_le (depth v) 55 ≡ true → Shallow (e ∷ es) → Shallow more
     → Shallow (match_ordering o ((k, v) ∷ e ∷ es) ((e.0, v) ∷ es) (e ∷ more))
-put_by Less k v e es more d h m = and_true _ _ d h
-put_by Equal k v e es more d h m = and_true _ _ d (both _ _ h).1
-put_by Greater k v e es more d h m = and_true _ _ (both _ _ h).0 m
+put_by Less k v e es more d h m = and_both _ _ d h
+put_by Equal k v e es more d h m = and_both _ _ d (and_parts _ _ h).1
+put_by Greater k v e es more d h m = and_both _ _ (and_parts _ _ h).0 m
 
 shallow-put : (k : List ℕ) (v : Value) (es : List (List ℕ × Value)) → nat_le (depth v) 55 ≡ true → Shallow es → Shallow (put (slice_cmp nat_cmp) k v es)
-shallow-put k v [] d h = and_true _ _ d refl
-shallow-put k v (e ∷ es) d h = put_by (slice_cmp nat_cmp k e.0) k v e es (put (slice_cmp nat_cmp) k v es) d h (shallow-put k v es d (both _ _ h).1)
+shallow-put k v [] d h = and_both _ _ d refl
+shallow-put k v (e ∷ es) d h = put_by (slice_cmp nat_cmp k e.0) k v e es (put (slice_cmp nat_cmp) k v es) d h (shallow-put k v es d (and_parts _ _ h).1)
 
 shallow-with_fields : (es fs : List (List ℕ × Value)) → Shallow es → Shallow fs → Shallow (with_fields es fs)
 shallow-with_fields [] fs h k = k
-shallow-with_fields (e ∷ es) fs h k = shallow-with_fields es (put (slice_cmp nat_cmp) e.0 e.1 fs) (both _ _ h).1 (shallow-put e.0 e.1 fs (both _ _ h).0 k)
+shallow-with_fields (e ∷ es) fs h k = shallow-with_fields es (put (slice_cmp nat_cmp) e.0 e.1 fs) (and_parts _ _ h).1 (shallow-put e.0 e.1 fs (and_parts _ _ h).0 k)
 
 keep_by : (b : Bool) (e : List ℕ × Value) (es more : List (List ℕ × Value)) → Shallow (e ∷ es) → Shallow more → Shallow (cond b (e ∷ more) more)
-keep_by true e es more h m = and_true _ _ (both _ _ h).0 m
+keep_by true e es more h m = and_both _ _ (and_parts _ _ h).0 m
 keep_by false e es more h m = m
 
 shallow-where : (p : List ℕ → Bool) (es : List (List ℕ × Value)) → Shallow es → Shallow (where_key (slice_cmp nat_cmp) p es)
 shallow-where p [] h = refl
-shallow-where p (e ∷ es) h = keep_by (p e.0) e es (where_key (slice_cmp nat_cmp) p es) h (shallow-where p es (both _ _ h).1)
+shallow-where p (e ∷ es) h = keep_by (p e.0) e es (where_key (slice_cmp nat_cmp) p es) h (shallow-where p es (and_parts _ _ h).1)
 
 -- trees
 

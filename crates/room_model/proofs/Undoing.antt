@@ -26,6 +26,7 @@ use Rattle.room_nodes.proofs.StepForm.{FieldsOf}
 use Rattle.room_nodes.proofs.Steps.{neither, not_false, formed-step, formed-fold}
 use Rattle.room_items.specs.Preorder.{preorder, preorder_within}
 use Rattle.room_items.proofs.Childs.{Kid}
+use Rattle.room_items.proofs.Spells.{walk_there}
 use Rattle.room_items.proofs.Tours.{is_within, tour_under}
 use Rattle.room_model.specs.Laws.{UndoRestores}
 use Rattle.room_model.specs.Ordered.{AreOrderedBodies, IsOrderedTree}
@@ -40,7 +41,7 @@ use Rattle.room_model.proofs.Kin.{same_children}
 use Rattle.room_model.proofs.Operations.{writes_by}
 use Rattle.room_model.proofs.OrderedSteps.{ordered_step}
 use Rattle.room_model.proofs.Regions.{node_agrees, slot_agrees}
-use Rattle.room_model.proofs.Restoring.{order, under, walk_stands}
+use Rattle.room_model.proofs.Restoring.{order, under}
 use Rattle.room_model.proofs.Reversing.{reversible}
 use Rattle.room_model.proofs.Touching.{IsOut, child_out}
 
@@ -95,7 +96,7 @@ module _ (t u : Nodes) (f : IsFormed t) (g : IsFormed u) (o : IsOrderedTree t) (
     stands : (q : NodeId) → Has q (preorder t y) → (n : Node) × (get t q ≡ Some n)
     stands q h = elim (subst (Has q) (order t f y m made here) h) [
       | inl e ↦ (m, ap (get t) (sym e) ∙ here)
-      | inr d ↦ walk_stands t q (under t f y m made here) (y ∷ []) (tour_under t f y) d
+      | inr d ↦ walk_there t q (under t f y m made here) (y ∷ []) (tour_under t f y) d
     ]
 
     listed_hit : (q : NodeId) → Has q (preorder t y) → is_hit t y q ≡ true

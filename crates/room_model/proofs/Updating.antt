@@ -21,13 +21,14 @@ use Rattle.room_nodes.proofs.Listing.{Has, less_of, parts}
 use Rattle.room_nodes.proofs.Places.{not_below_itself}
 use Rattle.room_nodes.proofs.StepForm.{FieldsOf, at_node, cut_children}
 use Rattle.room_nodes.proofs.Undoing.{parent_other}
+use Rattle.room_items.proofs.Spells.{walk_there}
 use Rattle.room_items.proofs.Tours.{tour_under}
 use Rattle.room_model.specs.Ordered.{AreOrdered}
 use Rattle.room_model.specs.Reversal.{creations, node_restored, child_restored, field_in, field_of_node, old_fields, old_update, gone_or, other_name, other_names, reversed}
 use Rattle.room_model.proofs.Booleans.{by_no}
 use Rattle.room_model.proofs.Cutting.{siblings_apart, IsNamed, IsSpared, IsCut, cut}
 use Rattle.room_model.proofs.Fields.{Named, olds, olds_are, olds_named, cleaned, cleaned_by, restored_fields, sorted_of, ordered_of}
-use Rattle.room_model.proofs.Restoring.{step_acts, put_same, put_twice, created, fold-append, walk_fresh, walk_stands, Follows, Rebuilt, restore, under, has_under, under_is_below, restored_is}
+use Rattle.room_model.proofs.Restoring.{step_acts, put_same, put_twice, created, fold-append, walk_fresh, Follows, Rebuilt, restore, under, has_under, under_is_below, restored_is}
 
 -- a name stands once among names in order
 
@@ -220,7 +221,7 @@ module _ (t : Nodes) (f : IsFormed t) (x : NodeId) (n : Node) (there : get t x �
 
     answer : (q : NodeId) → q ≢ y → q ≢ x → (o : Option Node) → get t q ≡ o → (b : Bool) → is_below t y q ≡ b → get built.tree q ≡ get (now es less) q
     answer q dy dx None e b h =
-        built.old q (λ g. let w = walk_stands t q rest (y ∷ []) (tour_under t f y) g in some_none w.0 (sym w.1 ∙ e))
+        built.old q (λ g. let w = walk_there t q rest (y ∷ []) (tour_under t f y) g in some_none w.0 (sym w.1 ∙ e))
         ∙ get_other (now all less) y m q dy ∙ get_other (without_children t x all) x (node less) q dx
         ∙ nothing all q e _ refl ∙ sym (nothing es q e _ refl) ∙ sym (get_other (without_children t x es) x (node less) q dx)
     answer q dy dx (Some w) e true h =
