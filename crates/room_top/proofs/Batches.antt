@@ -1,14 +1,11 @@
 -- Batches whose clocks run on.
-use Rattle.std.proofs.Common.{◌≡◌, ℕ, ◌+◌, ◌-◌, ◌<◌, ◌≤◌, ◌⊎◌, inl, inr, true, false, cond, nat_lt, max, List, [], ◌∷◌, ◌++◌, length, drop, refl, sym, ap, ◌∙◌, arith, length-drop, ⊎_elim}
+use Rattle.std.proofs.Common.{◌≡◌, ℕ, zero, suc, ◌+◌, ◌-◌, ◌<◌, ◌≤◌, ◌⊎◌, inl, inr, true, false, nat_lt, max, List, [], ◌∷◌, ◌++◌, length, drop, refl, sym, ap, ◌∙◌, arith, length-drop, ⊎_elim}
 use Rattle.std.proofs.lemmas.Bool.{cases_lt}
+use Rattle.std.specs.Prelude.{All}
 use Rattle.std.proofs.lemmas.Bool.Decides.{nat_tests}
 use Rattle.room_top.specs.Messages.{Batch}
 use Rattle.room_top.specs.Account.{last_clock, ends, beyond}
-
--- the clocks run on by ones after c, and no batch is empty
-abbrev pub Chain : ℕ → List Batch → Type 0
-Chain c [] = record {}
-Chain c (b ∷ bs) = record { first : b.first ≡ c + 1; some : 0 < length b.bodies; more : Chain (c + length b.bodies) bs }
+use Rattle.room_top.specs.Laws.{RunsOn}
 
 abbrev pub upto : ℕ → List Batch → ℕ
 upto c [] = c
@@ -26,23 +23,23 @@ pub upto_above : (c : ℕ) (bs : List Batch) → c ≤ upto c bs
 upto_above c [] = omega arith
 upto_above c (b ∷ bs) = omega (arith, upto_above (c + length b.bodies) bs)
 
-pub ends_upto : (c : ℕ) (bs : List Batch) → Chain c bs → ends c bs ≡ upto c bs
+pub ends_upto : (c : ℕ) (bs : List Batch) → RunsOn c bs → ends c bs ≡ upto c bs
 ends_upto c [] h = refl
 ends_upto c (b ∷ bs) h =
     let e : last_clock b ≡ c + length b.bodies = omega arith in
     rw e (ends_upto (c + length b.bodies) bs h.more)
 
-pub Chain-append : (c : ℕ) (bs cs : List Batch) → Chain c bs → Chain (upto c bs) cs → Chain c (bs ++ cs)
-Chain-append c [] cs h k = k
-Chain-append c (b ∷ bs) cs h k = record { first = h.first; some = h.some; more = Chain-append (c + length b.bodies) bs cs h.more k }
+pub RunsOn-append : (c : ℕ) (bs cs : List Batch) → RunsOn c bs → RunsOn (upto c bs) cs → RunsOn c (bs ++ cs)
+RunsOn-append c [] cs h k = k
+RunsOn-append c (b ∷ bs) cs h k = record { first = h.first; some = h.some; more = RunsOn-append (c + length b.bodies) bs cs h.more k }
 
-pub Chain-front : (c : ℕ) (bs cs : List Batch) → Chain c (bs ++ cs) → Chain c bs
-Chain-front c [] cs h = record {}
-Chain-front c (b ∷ bs) cs h = record { first = h.first; some = h.some; more = Chain-front (c + length b.bodies) bs cs h.more }
+pub RunsOn-front : (c : ℕ) (bs cs : List Batch) → RunsOn c (bs ++ cs) → RunsOn c bs
+RunsOn-front c [] cs h = record {}
+RunsOn-front c (b ∷ bs) cs h = record { first = h.first; some = h.some; more = RunsOn-front (c + length b.bodies) bs cs h.more }
 
-pub Chain-back : (c : ℕ) (bs cs : List Batch) → Chain c (bs ++ cs) → Chain (upto c bs) cs
-Chain-back c [] cs h = h
-Chain-back c (b ∷ bs) cs h = Chain-back (c + length b.bodies) bs cs h.more
+pub RunsOn-back : (c : ℕ) (bs cs : List Batch) → RunsOn c (bs ++ cs) → RunsOn (upto c bs) cs
+RunsOn-back c [] cs h = h
+RunsOn-back c (b ∷ bs) cs h = RunsOn-back (c + length b.bodies) bs cs h.more
 
 pub In-append_left : (b : Batch) (bs cs : List Batch) → In b bs → In b (bs ++ cs)
 In-append_left b [] cs i = absurd i
@@ -53,7 +50,7 @@ pub In-append_right : (b : Batch) (bs cs : List Batch) → In b cs → In b (bs 
 In-append_right b [] cs i = i
 In-append_right b (x ∷ xs) cs i = inr (In-append_right b xs cs i)
 
-pub first_above : (c : ℕ) (bs : List Batch) (b : Batch) → Chain c bs → In b bs → c + 1 ≤ b.first
+pub first_above : (c : ℕ) (bs : List Batch) (b : Batch) → RunsOn c bs → In b bs → c + 1 ≤ b.first
 first_above c [] b h i = absurd i
 first_above c (x ∷ xs) b h (inl e) = let f : b.first ≡ x.first = ap (λ (y : Batch). y.first) e in omega arith
 first_above c (x ∷ xs) b h (inr i) = omega (arith, first_above (c + length x.bodies) xs b h.more i)
@@ -62,7 +59,7 @@ last_same : (b x : Batch) (c : ℕ) → b ≡ x → x.first ≡ c + 1 → 0 < le
 last_same b x c e f s = ap last_clock e ∙ omega arith
 
 -- a batch that begins by the next clock was taken already, or is the next one
-pub old_or_next : (c : ℕ) (pre rest : List Batch) (b : Batch) → Chain c (pre ++ rest) → In b (pre ++ rest) → b.first ≤ upto c pre + 1
+pub old_or_next : (c : ℕ) (pre rest : List Batch) (b : Batch) → RunsOn c (pre ++ rest) → In b (pre ++ rest) → b.first ≤ upto c pre + 1
     → (last_clock b ≤ upto c pre) ⊎ ((more : List Batch) × (rest ≡ b ∷ more))
 old_or_next c [] [] b h i l = absurd i
 old_or_next c [] (x ∷ xs) b h (inl e) l = inr (xs, ap (λ (y : Batch). y ∷ xs) (sym e))
@@ -70,21 +67,11 @@ old_or_next c [] (x ∷ xs) b h (inr i) l = absurd (omega (arith, first_above (c
 old_or_next c (x ∷ pre) rest b h (inl e) l = inl (omega (arith, last_same b x c e h.first h.some, upto_above (c + length x.bodies) pre))
 old_or_next c (x ∷ pre) rest b h (inr i) l = old_or_next (c + length x.bodies) pre rest b h.more i l
 
-pub beyond-append : (e : ℕ) (bs cs : List Batch) → beyond e (bs ++ cs) ≡ beyond e bs ++ beyond e cs
-beyond-append e [] cs = refl
-beyond-append e (b ∷ bs) cs = elim (nat_lt e (last_clock b)) as (λ t. cond t (cut ∷ beyond e (bs ++ cs)) (beyond e (bs ++ cs)) ≡ cond t (cut ∷ beyond e bs) (beyond e bs) ++ beyond e cs) [
-  | true ↦ ap (λ ds. cut ∷ ds) (beyond-append e bs cs)
-  | false ↦ beyond-append e bs cs
-]
-  where
-    cut : Batch
-    cut = record { first = max b.first (e + 1); bodies = drop (e + 1 - b.first) b.bodies }
-
 same_batch : (b : Batch) (f : ℕ) (n : ℕ) → f ≡ b.first → n ≡ 0 → record { first = f; bodies = drop n b.bodies } ≡ b
 same_batch b f n e z = rw (e, z) refl
 
 -- a whole batch beyond the clock stays as it is
-pub beyond_none : (c e : ℕ) (bs : List Batch) → Chain c bs → e ≤ c → beyond e bs ≡ bs
+pub beyond_none : (c e : ℕ) (bs : List Batch) → RunsOn c bs → e ≤ c → beyond e bs ≡ bs
 beyond_none c e [] h l = refl
 beyond_none c e (b ∷ bs) h l =
     let t : nat_lt e (last_clock b) ≡ true = grind (arith, nat_tests) in
@@ -92,7 +79,7 @@ beyond_none c e (b ∷ bs) h l =
     rw t (rw (s, beyond_none (c + length b.bodies) e bs h.more (omega arith)) refl)
 
 -- and one up to it goes
-pub beyond_one : (c e : ℕ) (b : Batch) (bs : List Batch) → Chain c (b ∷ bs) → c + length b.bodies ≤ e → beyond e (b ∷ bs) ≡ beyond e bs
+pub beyond_one : (c e : ℕ) (b : Batch) (bs : List Batch) → RunsOn c (b ∷ bs) → c + length b.bodies ≤ e → beyond e (b ∷ bs) ≡ beyond e bs
 beyond_one c e b bs h l =
     let t : nat_lt e (last_clock b) ≡ false = grind (arith, nat_tests) in
     rw t refl
@@ -100,7 +87,7 @@ beyond_one c e b bs h l =
 cut_length : (c e n k : ℕ) → k ≡ n - (e - c) → c ≤ e → e < c + n → e + k ≡ c + n
 cut_length c e n k is l m = omega arith
 
-pub beyond_upto : (c e : ℕ) (bs : List Batch) → Chain c bs → c ≤ e → upto e (beyond e bs) ≤ max e (upto c bs)
+pub beyond_upto : (c e : ℕ) (bs : List Batch) → RunsOn c bs → c ≤ e → upto e (beyond e bs) ≤ max e (upto c bs)
 beyond_upto c e [] h l = omega arith
 beyond_upto c e (b ∷ bs) h l = ⊎_elim cut (λ m. past m (beyond_upto (c + length b.bodies) e bs h.more m)) (cases_lt e (c + length b.bodies))
   where
@@ -114,3 +101,9 @@ beyond_upto c e (b ∷ bs) h l = ⊎_elim cut (λ m. past m (beyond_upto (c + le
         let p : upto (e + length (drop (e + 1 - b.first) b.bodies)) (beyond e bs) ≤ max e (upto c (b ∷ bs)) =
         rw (k, beyond_none (c + length b.bodies) e bs h.more (omega arith)) (omega arith) in
         rw t p
+
+-- batches that run on after a clock begin beyond each that is not greater
+pub all_above : (c e : ℕ) (bs : List Batch) → RunsOn c bs → e ≤ c → All (λ b. e < b.first) bs
+all_above c e [] h l k d below = absurd (omega (arith, below))
+all_above c e (b ∷ bs) h l zero d below = omega (arith, h.first)
+all_above c e (b ∷ bs) h l (suc k) d below = all_above (c + length b.bodies) e bs h.more (omega arith) k d (omega (arith, below))

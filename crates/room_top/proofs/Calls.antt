@@ -12,7 +12,7 @@ use Rattle.room_top.specs.declared.messages.Up.TheVariants.{Hello}
 use Rattle.room_top.specs.declared.parts.Link.{Link}
 use Rattle.room_top.specs.Serve.{no_link}
 use Rattle.room_top.specs.Queues.{Queues}
-use Rattle.room_top.proofs.Batches.{upto, upto-append, Chain-append, Chain-back, ends_upto}
+use Rattle.room_top.proofs.Batches.{upto, upto-append, RunsOn-append, RunsOn-back, ends_upto}
 use Rattle.room_top.proofs.Matches.{Matches-issue, left, Left}
 use Rattle.room_top.proofs.Waiting.{InOrder, InOrder-append, InOrder-issue, frames, IsOn, idle_synced, idle_stays}
 use Rattle.room_top.proofs.Holds.{Holds, ShowsAt, Fresh}
@@ -40,7 +40,7 @@ module _ (s : State) (us : List Update) (last : ℕ) (all : List Batch) (x : Acc
           rest = h.ledger.rest ++ new ∷ [];
           all_is = ap (λ ds. ds ++ new ∷ []) h.ledger.all_is ∙ append_assoc h.ledger.accepted h.ledger.rest (new ∷ []);
           last_is = h.ledger.last_is;
-          chain = Chain-append 0 all (new ∷ []) h.ledger.chain (record { first = ap (λ c. c + 1) e; some = omega arith; more = record {} });
+          chain = RunsOn-append 0 all (new ∷ []) h.ledger.chain (record { first = ap (λ c. c + 1) e; some = omega arith; more = record {} });
           took = rw more (Matches-issue k.actor s.tree 0 h.done all (issued x) (new ∷ []) x.told h.ledger.took);
           takes = rw more (Matches-issue k.actor (tree_after s.tree h.done) x.told h.coming (issued x) h.ledger.rest (new ∷ []) last h.ledger.takes);
         };
@@ -109,7 +109,7 @@ module _ (s : State) (us : List Update) (last : ℕ) (all : List Batch) (x : Acc
   flush_frames : (h : Holds s us last all x q k) → InOrder k.actor all h.up.reach (map (frame_of k.actor) x.fresh) (max h.up.reach (upto x.told (issued x)))
   flush_frames h =
       let l = told_left h in
-      let c = Chain-back x.told x.sent x.fresh l.chain in
+      let c = RunsOn-back x.told x.sent x.fresh l.chain in
       let parts : all ≡ (l.front ++ x.sent) ++ x.fresh = l.parts ∙ sym (append_assoc l.front x.sent x.fresh) in
       rw (parts, upto-append x.told x.sent x.fresh) (frames k.actor (l.front ++ x.sent) x.fresh (upto x.told x.sent) h.up.reach c h.up.sent)
 

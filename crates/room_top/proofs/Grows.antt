@@ -16,7 +16,8 @@ use Rattle.room_top.specs.declared.messages.Down.TheVariants.{Update as Update_c
 use Rattle.room_top.specs.declared.parts.Link.{Link}
 use Rattle.room_top.specs.Serve.{rest_beyond, runs_on}
 use Rattle.room_top.specs.Queues.{Queues}
-use Rattle.room_top.proofs.Batches.{Chain, upto, upto-append, In, old_or_next, Chain-back}
+use Rattle.room_top.specs.Laws.{RunsOn}
+use Rattle.room_top.proofs.Batches.{upto, upto-append, In, old_or_next, RunsOn-back}
 use Rattle.room_top.proofs.Matches.{Matches-append}
 use Rattle.room_top.proofs.Waiting.{Waits-grow, Waits-push, Waits-whole, InOrder}
 use Rattle.room_top.proofs.Holds.{Holds, Ledger, Downs, Ups, Bare, Fresh}
@@ -92,9 +93,9 @@ module _ (s : State) (us : List Update) (last : ℕ) (all : List Batch) (x : Acc
       → (reach : ℕ) → InOrder k.actor all (max last (last_clock b)) ms reach → upto x.told x.sent ≤ reach
       → Holds s (us ++ u ∷ []) (u.first + length u.bodies - 1) all x (record { up = ms; down = q.down ++ news (s.count + length us + 1) u k.fetched }) k
   holds_own b ms some own first bodies h more next reach order sent =
-      let c : Chain last (b ∷ more) =
-      subst (λ (bs : List Batch). Chain last bs) next (subst (λ i. Chain i h.ledger.rest) h.ledger.last_is
-      (Chain-back 0 h.ledger.accepted h.ledger.rest (subst (Chain 0) h.ledger.all_is h.ledger.chain))) in
+      let c : RunsOn last (b ∷ more) =
+      subst (λ (bs : List Batch). RunsOn last bs) next (subst (λ i. RunsOn i h.ledger.rest) h.ledger.last_is
+      (RunsOn-back 0 h.ledger.accepted h.ledger.rest (subst (RunsOn 0) h.ledger.all_is h.ledger.chain))) in
       let n : length u.bodies ≡ length b.bodies = ap length bodies in
       let to : u.first + length u.bodies - 1 ≡ last + length b.bodies = omega arith in
       let top : max last (last_clock b) ≡ last + length b.bodies = omega arith in
@@ -158,7 +159,7 @@ pub front_frame : (s : State) (last told : ℕ) (done coming : List Update) (all
     → Old last told all tried k os ms ⊎ Next last told all tried l.rest k os ms
 front_frame s last told done coming all pending tried k os ms l u =
     let o = u.order in
-    let c : Chain 0 (l.accepted ++ l.rest) = subst (Chain 0) l.all_is l.chain in
+    let c : RunsOn 0 (l.accepted ++ l.rest) = subst (RunsOn 0) l.all_is l.chain in
     let i : In o.batch (l.accepted ++ l.rest) = subst (λ (bs : List Batch). In o.batch bs) l.all_is o.issued in
     let begins : o.batch.first ≤ upto 0 l.accepted + 1 = omega (arith, o.begins, l.last_is) in
     ⊎_elim
@@ -167,7 +168,7 @@ front_frame s last told done coming all pending tried k os ms l u =
       rest = record { reach = u.reach; order = subst (λ j. InOrder k.actor all j ms u.reach) (same_max last (last_clock o.batch) (rw (← l.last_is) old)) o.more; sent = u.sent };
     }))
     (λ new.
-    let d : Chain last (o.batch ∷ new.0) = subst (λ (bs : List Batch). Chain last bs) new.1 (subst (λ j. Chain j l.rest) l.last_is (Chain-back 0 l.accepted l.rest c)) in
+    let d : RunsOn last (o.batch ∷ new.0) = subst (λ (bs : List Batch). RunsOn last bs) new.1 (subst (λ j. RunsOn j l.rest) l.last_is (RunsOn-back 0 l.accepted l.rest c)) in
     inr (record { batch = o.batch; more = new.0; next = new.1; first = d.first; some = d.some; ops = o.ops; reach = u.reach; order = o.more; sent = u.sent }))
     (old_or_next 0 l.accepted l.rest o.batch c i begins)
   where

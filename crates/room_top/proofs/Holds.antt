@@ -9,10 +9,10 @@ use Rattle.room_top.specs.declared.messages.Stage.TheVariants.{Idle, Dialled, Co
 use Rattle.room_top.specs.declared.messages.Up.{Up}
 use Rattle.room_top.specs.declared.messages.Down.{Down}
 use Rattle.room_top.specs.declared.parts.Link.{Link}
-use Rattle.room_top.specs.Laws.{at, Run, account, queue}
+use Rattle.room_top.specs.Laws.{at, Run, account, queue, RunsOn}
 use Rattle.room_top.specs.Serve.{no_link}
 use Rattle.room_top.specs.Queues.{Queues}
-use Rattle.room_top.proofs.Batches.{Chain, upto}
+use Rattle.room_top.proofs.Batches.{upto}
 use Rattle.room_top.proofs.Matches.{Matches}
 use Rattle.room_top.proofs.Waiting.{Waits, InOrder, IsOn}
 
@@ -27,7 +27,7 @@ pub record Ledger (s : State) (last a : ℕ) (done coming : List Update) (all pe
   pub rest : List Batch
   pub all_is : all ≡ accepted ++ rest
   pub last_is : upto 0 accepted ≡ last
-  pub chain : Chain 0 all
+  pub chain : RunsOn 0 all
   pub took : Matches a s.tree 0 done all pending told
   pub takes : Matches a (tree_after s.tree done) told coming pending rest last
 

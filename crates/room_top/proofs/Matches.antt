@@ -6,8 +6,8 @@ use Rattle.room_nodes.specs.Steps.{fold}
 use Rattle.room_top.specs.Log.{Update, tree_after, last_after}
 use Rattle.room_top.specs.Messages.{Batch}
 use Rattle.room_top.specs.Account.{beyond}
-use Rattle.room_top.specs.Laws.{batches_of}
-use Rattle.room_top.proofs.Batches.{Chain, upto, beyond_none, beyond_one}
+use Rattle.room_top.specs.Laws.{batches_of, RunsOn}
+use Rattle.room_top.proofs.Batches.{upto, beyond_none, beyond_one}
 
 -- From the tree t and the clock c, the updates take the batches bs one after another, up to the clock e; rest is what they leave.
 abbrev pub Matches : ℕ → Tree → ℕ → List Update → List Batch → List Batch → ℕ → Type 0
@@ -77,14 +77,14 @@ Matches-issue a t c (u ∷ us) bs rest cs e (inr h) = inr (record { other = h.ot
 pub record Left (c e : ℕ) (bs rest : List Batch) : Type 0 where
   pub is : beyond e bs ≡ rest
   pub above : c ≤ e
-  pub chain : Chain e rest
+  pub chain : RunsOn e rest
   pub end : upto e rest ≡ upto c bs
   pub front : List Batch
   pub parts : bs ≡ front ++ rest
   pub front_end : upto c front ≡ e
 
 pub left : (a : ℕ) (t : Tree) (c : ℕ) (us : List Update) (bs rest : List Batch) (e : ℕ)
-    → Chain c bs → Matches a t c us bs rest e → Left c e bs rest
+    → RunsOn c bs → Matches a t c us bs rest e → Left c e bs rest
 left a t c [] bs rest e h m = record {
   is = rw (← m.clock) (beyond_none c c bs h (omega arith) ∙ m.same);
   above = omega arith;
@@ -96,7 +96,7 @@ left a t c [] bs rest e h m = record {
 }
 left a t c (u ∷ us) bs rest e h (inl m) =
     let n : length u.bodies ≡ length m.batch.bodies = ap length m.bodies in
-    let k : Chain c (m.batch ∷ m.others) = subst (Chain c) m.front h in
+    let k : RunsOn c (m.batch ∷ m.others) = subst (RunsOn c) m.front h in
     let l = left a (fold t u.bodies) (c + length u.bodies) us m.others rest e (rw n k.more) m.more in
     record {
       is = rw m.front (beyond_one c e m.batch m.others k (rw (← n) l.above) ∙ l.is);
@@ -110,11 +110,11 @@ left a t c (u ∷ us) bs rest e h (inl m) =
 left a t c (u ∷ us) bs rest e h (inr m) = left a (fold t u.bodies) c us bs rest e h m.more
 
 pub last_after_is : (a : ℕ) (t : Tree) (c : ℕ) (us : List Update) (bs rest : List Batch) (e : ℕ)
-    → Chain c bs → Matches a t c us bs rest e → last_after a c us ≡ e
+    → RunsOn c bs → Matches a t c us bs rest e → last_after a c us ≡ e
 last_after_is a t c [] bs rest e h m = m.clock
 last_after_is a t c (u ∷ us) bs rest e h (inl m) =
     let n : length u.bodies ≡ length m.batch.bodies = ap length m.bodies in
-    let k : Chain c (m.batch ∷ m.others) = subst (Chain c) m.front h in
+    let k : RunsOn c (m.batch ∷ m.others) = subst (RunsOn c) m.front h in
     let f : u.first ≡ c + 1 = m.first ∙ k.first in
     let g : u.first + length u.bodies - 1 ≡ c + length u.bodies = omega arith in
     rw (eq-eqb u.actor a m.own) (rw g (last_after_is a (fold t u.bodies) (c + length u.bodies) us m.others rest e (rw n k.more) m.more))

@@ -16,7 +16,9 @@ use Rattle.room_top.specs.declared.messages.Down.{Down}
 use Rattle.room_top.specs.declared.messages.Down.TheVariants.{Room, Whole, Update as Update_comes}
 use Rattle.room_top.specs.declared.parts.Link.{Link}
 use Rattle.room_top.specs.Queues.{Queues}
-use Rattle.room_top.proofs.Batches.{Chain, upto, upto_above, ends_upto, beyond-append, beyond_upto, Chain-front}
+use Rattle.room_top.specs.Laws.{RunsOn}
+use Rattle.room_top.proofs.Batches.{upto, upto_above, ends_upto, beyond_upto, RunsOn-front}
+use Rattle.room_top.proofs.Beyond.{beyond-append}
 use Rattle.room_top.proofs.Matches.{Matches, Matches-append, Matches-cut, left, last_after_is}
 use Rattle.room_top.proofs.Waiting.{Waits, InOrder, InOrder-append, InOrder_above, frames, IsOn, idle_synced}
 use Rattle.room_top.proofs.Holds.{Holds, ShowsAt, Ledger}
@@ -199,9 +201,9 @@ module _ (s : State) (us : List Update) (last : ℕ) (all : List Batch) (x : Acc
 
 -- the own clocks of the next update
 module _ (s : State) (a last told limit : ℕ) (t : Tree) (pending rest : List Batch) (u : Update) (clock : ℕ) where
-  next_taken : Chain told pending → clock ≤ limit → Matches a t told (u ∷ []) pending rest clock → taken a limit told (ops_of u) ≡ Some clock
+  next_taken : RunsOn told pending → clock ≤ limit → Matches a t told (u ∷ []) pending rest clock → taken a limit told (ops_of u) ≡ Some clock
   next_taken c l (inl m) =
-      let k : Chain told (m.batch ∷ m.others) = subst (Chain told) m.front c in
+      let k : RunsOn told (m.batch ∷ m.others) = subst (RunsOn told) m.front c in
       let f : u.first ≡ told + 1 = m.first ∙ k.first in
       let e : told + length u.bodies ≡ clock = (m.more).clock in
       taken_own a u.actor limit told u.first u.bodies m.own f (omega arith) ∙ ap Some e
@@ -253,7 +255,7 @@ module _ (s : State) (us : List Update) (last : ℕ) (all : List Batch) (x : Acc
         up = record {
           reach = h.up.reach;
           order = rw (append-nil q.up) h.up.order;
-          sent = omega (arith, beyond_upto x.told v.clock x.sent (Chain-front x.told x.sent x.fresh l.chain) v.above, h.up.sent, v.below);
+          sent = omega (arith, beyond_upto x.told v.clock x.sent (RunsOn-front x.told x.sent x.fresh l.chain) v.above, h.up.sent, v.below);
         };
       }))
 

@@ -9,7 +9,8 @@ use Rattle.room_top.specs.declared.messages.Up.{Up}
 use Rattle.room_top.specs.declared.messages.Up.TheVariants.{Hello, Fetch, Ops}
 use Rattle.room_top.specs.declared.messages.Down.{Down}
 use Rattle.room_top.specs.declared.messages.Down.TheVariants.{Room, Whole, Update as Update_comes}
-use Rattle.room_top.proofs.Batches.{Chain, upto, upto_above, In, In-append_left, In-append_right}
+use Rattle.room_top.specs.Laws.{RunsOn}
+use Rattle.room_top.proofs.Batches.{upto, upto_above, In, In-append_left, In-append_right}
 
 pub idle_synced : Idle ≡ Synced → ⊥
 idle_synced e = cc
@@ -139,7 +140,7 @@ InOrder_above a all c (Fetch ∷ q) e h = InOrder_above a all c q e h
 InOrder_above a all c (Ops os ∷ q) e h = omega (arith, InOrder_above a all (max c (last_clock h.batch)) q e h.more)
 
 -- The frames of batches that run on. They stand at the end of those issued
-pub frames : (a : ℕ) (front bs : List Batch) (c d : ℕ) → Chain c bs → c ≤ d → InOrder a (front ++ bs) d (map (frame_of a) bs) (max d (upto c bs))
+pub frames : (a : ℕ) (front bs : List Batch) (c d : ℕ) → RunsOn c bs → c ≤ d → InOrder a (front ++ bs) d (map (frame_of a) bs) (max d (upto c bs))
 frames a front [] c d h l = omega arith
 frames a front (b ∷ bs) c d h l = record {
   batch = b;

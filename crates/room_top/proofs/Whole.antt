@@ -11,7 +11,7 @@ use Rattle.room_top.specs.Messages.{Batch}
 use Rattle.room_top.specs.Queues.{Queues}
 use Rattle.room_top.specs.Serve.{Server, attached, no_link, serve, serve_from, serve_at, update, runs_on, rest_beyond}
 use Rattle.room_top.specs.World.{World, dial_at, edit_by, push_up, flush_at, up_on, up_at, down_by, down_on, down_at, taken_by, moved, next_move, drain, drain_by, give, deliver as deliver_there}
-use Rattle.room_top.specs.Laws.{Run, at, batches_of, issued_by, no_queues, account, queue, line, run, then_stepped, opened_run, Shows, EachShows, tree_at}
+use Rattle.room_top.specs.Laws.{Run, at, batches_of, issued_by, no_queues, account, queue, line, run, then_stepped, opened_run, Shows, EachShows, IsLogged, RunsOn, tree_at}
 use Rattle.room_top.specs.declared.lines.Line.{Line}
 use Rattle.room_top.specs.declared.lines.Line.TheVariants.{Nothing, Dial, Drain, Flush, Show, ShowServer, Edit}
 use Rattle.room_top.specs.declared.world.Move.{Move}
@@ -22,6 +22,7 @@ use Rattle.room_top.specs.declared.messages.Up.{Up}
 use Rattle.room_top.specs.declared.messages.Up.TheVariants.{Hello, Fetch, Ops}
 use Rattle.room_top.specs.declared.messages.Down.{Down}
 use Rattle.room_top.specs.declared.parts.Link.{Link}
+use Rattle.room_top.proofs.Batches.{all_above}
 use Rattle.room_top.proofs.Maps.{at_same, at_other, at_empty, get_other}
 use Rattle.room_top.proofs.Matches.{Matches, Matches-append, batches_are, last_after_is}
 use Rattle.room_top.proofs.Waiting.{idle_synced}
@@ -365,7 +366,8 @@ record Done (s : State) (us : List Update) (all : List Batch) (x : Account) (t :
   begun : s.count ≤ x.n
   counted : x.n ≤ s.count + length us
   left : issued x ≡ beyond x.told all
-  once : (rest : List Batch) × (all ≡ batches_of x.actor us ++ rest)
+  clocks : RunsOn 0 all
+  logged : IsLogged us x.actor x.told all
   acknowledged : x.told ≤ last_after x.actor 0 us
 
 module _ (s : State) (us : List Update) (last : ℕ) (all : List Batch) (x : Account) (q : Queues) (k : Link) where
@@ -383,7 +385,12 @@ module _ (s : State) (us : List Update) (last : ℕ) (all : List Batch) (x : Acc
         begun = omega (arith, shown.n);
         counted = omega (arith, shown.n, ap length h.whole, length-append h.done h.coming);
         left = sym (told_left s us last all x q k h).is;
-        once = (h.ledger.rest, batches_are k.actor s.tree 0 us all h.ledger.rest last total ∙ ap (λ a. batches_of a us ++ h.ledger.rest) (sym shown.actor));
+        clocks = h.ledger.chain;
+        logged = record {
+          rest = h.ledger.rest;
+          once = batches_are k.actor s.tree 0 us all h.ledger.rest last total ∙ ap (λ a. batches_of a us ++ h.ledger.rest) (sym shown.actor);
+          unacknowledged = all_above last x.told h.ledger.rest (last_left s us last all x q k h).chain below;
+        };
         acknowledged = rw (shown.actor, ends) below;
       }
 
@@ -402,7 +409,8 @@ shows s log all x t e d =
       told = d.told;
       left = d.left;
       shows = over ∙ ap (λ bs. Some (with_batches (tree_at s log x.n) bs)) d.left;
-      once = d.once;
+      clocks = d.clocks;
+      logged = d.logged;
       acknowledged = d.acknowledged;
       settled = λ z. over ∙ ap (λ bs. Some (with_batches (tree_at s log x.n) bs)) (no_batches (issued x) z);
     }

@@ -1,5 +1,5 @@
 -- Runs, and what holds of each loaded client after any lines.
-use Rattle.std.specs.Prelude.{◌≡◌, ◌≤◌, ℕ, ◌+◌, ◌-◌, ◌==◌, if◌then◌else◌, Option, None, List, [], ◌∷◌, ◌++◌, length, take, Some}
+use Rattle.std.specs.Prelude.{◌≡◌, ◌<◌, ◌≤◌, ℕ, ◌+◌, ◌-◌, ◌==◌, if◌then◌else◌, All, Option, None, List, [], ◌∷◌, ◌++◌, length, take, Some}
 use Rattle.std.specs.Ordering.{nat_cmp}
 use Rattle.std.specs.FinMap.{FinMap, get}
 use Rattle.std.specs.Option.{unwrap_or}
@@ -68,11 +68,22 @@ abbrev pub batches_of : ℕ → List Update → List Batch
 batches_of a [] = []
 batches_of a (u ∷ us) = if u.actor == a then record { first = u.first; bodies = u.bodies } ∷ batches_of a us else batches_of a us
 
+-- the clocks of these batches run on by ones after c, and none is empty
+abbrev pub RunsOn : ℕ → List Batch → Type 0
+RunsOn c [] = record {}
+RunsOn c (b ∷ bs) = record { first : b.first ≡ c + 1; some : 0 < length b.bodies; more : RunsOn (c + length b.bodies) bs }
+
+-- the updates of an actor in the log are the first of these batches, whole, in order, each once. Of the others none has an
+-- acknowledged operation
+pub record IsLogged (us : List Update) (a told : ℕ) (all : List Batch) : Type 0 where
+  pub rest : List Batch
+  pub once : all ≡ batches_of a us ++ rest
+  pub unacknowledged : All (λ b. told < b.first) rest
+
 -- x.n is the number of an update of the log, or that of the opening state where it took none. The confirmed tree t of a client
 -- is that of the log after the update of this number, and so is the clock that it was told. What is unacknowledged is what is
--- beyond this clock of all batches that it ever issued. So it shows that tree with these on top, and that tree alone where
--- nothing is unacknowledged. The log has each batch once: the updates of its actor are whole batches that it issued, the first
--- of them, in order; and what is acknowledged is in the log
+-- beyond this clock of all batches that it ever issued, whose clocks run on from 1. So it shows that tree with these on top,
+-- and that tree alone where nothing is unacknowledged
 pub record Shows (s : State) (log : List Entry) (all : List Batch) (x : Account) (t : Nodes) : Type 0 where
   pub begun : s.count ≤ x.n
   pub counted : x.n ≤ s.count + length (updates_of log)
@@ -80,7 +91,8 @@ pub record Shows (s : State) (log : List Entry) (all : List Batch) (x : Account)
   pub told : x.told ≡ last_at s log x.n x.actor
   pub left : issued x ≡ beyond x.told all
   pub shows : shown x ≡ Some (with_batches (tree_at s log x.n) (beyond x.told all))
-  pub once : (rest : List Batch) × (all ≡ batches_of x.actor (updates_of log) ++ rest)
+  pub clocks : RunsOn 0 all
+  pub logged : IsLogged (updates_of log) x.actor x.told all
   pub acknowledged : x.told ≤ last_after x.actor 0 (updates_of log)
   pub settled : pending x ≡ 0 → shown x ≡ Some (tree_at s log x.n)
 
