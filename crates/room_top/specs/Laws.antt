@@ -32,7 +32,7 @@ also_issued all w (Edit c b) = λ d. if d == c then all d ++ issued_by (get w.cl
 also_issued all w l = all
 
 abbrev pub line : Run → Line → Run
-line r l = record { world = (world_step r.world l).world; log = r.log ++ (world_step r.world l).added; issued = also_issued r.issued r.world l }
+line r l = record (then_stepped r (world_step r.world l)) { issued = also_issued r.issued r.world l }
 
 abbrev pub run : Run → List Line → Run
 run r [] = r
