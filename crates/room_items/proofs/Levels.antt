@@ -3,7 +3,7 @@ use Rattle.std.proofs.Common.{◌≡◌, ◌≢◌, ◌-◌, ℕ, zero, suc, Lis
 use Rattle.std.specs.FinMap.{get}
 use Rattle.room_ids.specs.declared.ids.NodeId.{NodeId}
 use Rattle.room_nodes.specs.Shape.{Nodes, children}
-use Rattle.room_items.specs.Preorder.{preorder_within}
+use Rattle.room_nodes.specs.Preorder.{preorder_within}
 use Rattle.room_items.specs.View.{view_within, node_view}
 
 less : (n : ℕ) → suc n - 1 ≡ n

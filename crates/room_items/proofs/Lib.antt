@@ -1,10 +1,8 @@
-pub mod Childs
-pub mod NodesAgain
 pub mod Levels
-pub mod Merging
-pub mod Rooted
 pub mod MayPut
+pub mod Merging
+pub mod NodesAgain
+pub mod Rooted
+pub mod Rowing
 pub mod Shown
 pub mod Spells
-pub mod Tours
-pub mod Walks

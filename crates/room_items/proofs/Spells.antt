@@ -14,11 +14,12 @@ use Rattle.room_nodes.proofs.Gets.{one_or_two, same_self, differ, some_none}
 use Rattle.room_nodes.proofs.Listing.{Has}
 use Rattle.room_items.specs.Items.{Row, row_id, root_in, root_of, put_rows, same_ids, tree_under, tree_in, items_of, item_out}
 use Rattle.room_items.specs.Laws.{AreInRange, TreesReadBack}
-use Rattle.room_items.specs.Preorder.{preorder, preorder_within}
+use Rattle.room_nodes.specs.Preorder.{preorder, preorder_within}
 use Rattle.room_items.specs.Rows.{item_there}
 use Rattle.room_items.proofs.NodesAgain.{root_again}
-use Rattle.room_items.proofs.Tours.{tour_root, all_there}
-use Rattle.room_items.proofs.Walks.{Walk, Part, rev_on, rev_keeps, rev_has, rev_brings, row_at, row_ids, put_all, rows_again}
+use Rattle.room_nodes.proofs.Tours.{tour_root, all_there}
+use Rattle.room_items.proofs.Rowing.{Part, row_at, row_ids, put_all, rows_again}
+use Rattle.room_nodes.proofs.Walks.{walk_there, rev_on, rev_keeps, rev_has, rev_brings}
 
 same_ids_self : (xs : List NodeId) → same_ids xs xs ≡ true
 same_ids_self [] = refl
@@ -30,13 +31,6 @@ no_text (c ∷ cs) h = cc
 
 tree_by : (kind : Kind) (rows : List Row) (v : Nodes) → is_object kind ≡ true → put_rows (root_of kind) rows ≡ Some v → preorder v Root ≡ Root ∷ map row_id rows → tree_under kind rows ≡ Some v
 tree_by kind rows v o p q = rw (o, p, q, same_ids_self (Root ∷ map row_id rows)) refl
-
-pub walk_there : (t : Nodes) (y : NodeId) (xs done : List NodeId) → Walk t done xs → Has y xs → (n : Node) × (get t y ≡ Some n)
-walk_there t y [] done w h = absurd h
-walk_there t y (x ∷ xs) done w h = elim h [
-  | inl e ↦ (w.0.node, ap (get t) (sym e) ∙ w.0.there)
-  | inr g ↦ walk_there t y xs (x ∷ done) w.1 g
-]
 
 module _ (t : Nodes) (f : IsFormed t) (range : AreInRange t) where
   abbrev rest : List NodeId

@@ -15,7 +15,7 @@ use Rattle.room_nodes.specs.declared.nodes.Kind.{Kind}
 use Rattle.room_nodes.specs.declared.nodes.Kind.TheVariants.{Object, List as Listed, Map, Register}
 use Rattle.room_nodes.specs.Shape.{Nodes, child_at, fits_under, is_object}
 use Rattle.room_nodes.specs.Steps.{depth_in}
-use Rattle.room_items.specs.Preorder.{preorder}
+use Rattle.room_nodes.specs.Preorder.{preorder}
 
 -- writing
 

@@ -1,5 +1,4 @@
 pub mod Items
 pub mod Laws
-pub mod Preorder
 pub mod Rows
 pub mod View

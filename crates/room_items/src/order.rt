@@ -2,7 +2,7 @@
 ghost use Rattle.std.specs.Prelude.{◌≡◌, ◌++◌, flat_map, IfOk, OnOk};
 ghost use Rattle.room_ids.specs.declared.ids.NodeId.TheVariants.{Root};
 ghost use Rattle.room_items.specs.Items.{same_ids};
-ghost use Rattle.room_items.specs.Preorder.{preorder, preorder_within};
+ghost use Rattle.room_nodes.specs.Preorder.{preorder, preorder_within};
 
 use crate::kids::kids;
 use room_ids::{NodeId, same_id};

@@ -5,7 +5,7 @@ ghost use Rattle.room_ids.specs.declared.ids.NodeId.TheVariants.{Root};
 ghost use Rattle.room_nodes.specs.Shape.{empty_tree};
 ghost use Rattle.room_nodes.specs.declared.nodes.Kind.TheVariants.{Object};
 ghost use Rattle.room_items.specs.Items.{rows_in, row_id, same_ids, tree_under, tree_in};
-ghost use Rattle.room_items.specs.Preorder.{preorder};
+ghost use Rattle.room_nodes.specs.Preorder.{preorder};
 ghost use Rattle.room_items.specs.Rows.{row_of};
 
 use crate::item::Item;

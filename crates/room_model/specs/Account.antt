@@ -11,7 +11,7 @@ use Rattle.room_msg.specs.declared.messages.Resume.{Resume}
 use Rattle.room_msg.specs.declared.messages.ClientMsg.{ClientMsg}
 use Rattle.room_msg.specs.declared.messages.ClientMsg.TheVariants as client
 use Rattle.room_msg.specs.Written.{client_text}
-use Rattle.room_model.specs.Log.{ops_from, last_from}
+use Rattle.room_log.specs.Log.{ops_from, last_from}
 use Rattle.room_model.specs.Edits.{Clocks}
 use Rattle.room_model.specs.History.{History, empty_history}
 use Rattle.room_model.specs.Presence.{Others, nobody}

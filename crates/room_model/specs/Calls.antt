@@ -10,9 +10,9 @@ use Rattle.room_nodes.specs.Shape.{Nodes, empty_tree}
 use Rattle.room_nodes.specs.Steps.{step}
 use Rattle.room_msg.specs.declared.messages.ClientMsg.{ClientMsg}
 use Rattle.room_msg.specs.declared.messages.ClientMsg.TheVariants as client
-use Rattle.room_model.specs.Log.{ops_from, bodies_of}
+use Rattle.room_log.specs.Log.{ops_from, bodies_of}
 use Rattle.room_model.specs.Edits.{Edit, EditFault, NotLoaded, BatchTooLarge, Made, make, spent, fields_most}
-use Rattle.room_model.specs.Reversal.{reverse, reverse_all}
+use Rattle.room_nodes.specs.Reversal.{reverse, reverse_all}
 use Rattle.room_model.specs.History.{History, note, pause as pause_history, resume as resume_history, clear as clear_history, undo_entry, redo_entry, undone, redone}
 use Rattle.room_model.specs.Presence.{nobody, with_names, kept_names, unsent_members, back_of}
 use Rattle.room_model.specs.Notices.{Notice, notices_of_all}

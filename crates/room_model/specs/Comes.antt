@@ -16,8 +16,8 @@ use Rattle.room_msg.specs.declared.messages.ServerMsg.TheVariants as server
 use Rattle.room_msg.specs.declared.messages.ServerFrame.{ServerFrame}
 use Rattle.room_msg.specs.declared.messages.ServerFrame.TheVariants.{Pong, Msgs}
 use Rattle.room_msg.specs.declared.reason.Reason.{Reason}
-use Rattle.room_model.specs.Log.{actor_of, clock_of, bodies_of}
-use Rattle.room_model.specs.Equal.{are_first}
+use Rattle.room_log.specs.Log.{actor_of, clock_of, bodies_of}
+use Rattle.room_nodes.specs.Equal.{are_first}
 use Rattle.room_model.specs.Presence.{nobody, other_full, other_patched, forgotten}
 use Rattle.room_model.specs.Notices.{Notice, Reset, notices_of_all}
 use Rattle.room_model.specs.Account.{Account, Part, Stage, Idle, Dialled, Connected, Synced, actor, issued, last_issued, beyond, pending, shown, is_on, is_some_list, frame_of, frame_of_full, frame_of_full_to, frame_of_fetch}

@@ -16,8 +16,8 @@ use Rattle.room_nodes.specs.declared.nodes.Op.{Op}
 use Rattle.room_nodes.specs.declared.nodes.Body.{Body}
 use Rattle.room_nodes.specs.declared.nodes.Body.TheVariants.{SetKey, Update as UpdateOf, Delete, DeleteKey}
 use Rattle.room_nodes.specs.Shape.{Nodes, children, child_at, has_field, is_object, is_list}
-use Rattle.room_model.specs.Log.{ops_from}
-use Rattle.room_model.specs.Valid.{most}
+use Rattle.room_log.specs.Log.{ops_from}
+use Rattle.room_log.specs.Follows.{most}
 use Rattle.room_model.specs.Init.{Init, Plain, init_view, plain_depth, nodes_in, node_depth, positions_in, creates}
 
 pub data Edit : Type 0 where

@@ -15,7 +15,7 @@ use Rattle.room_model.specs.Account.{Account, shown, unacknowledged}
 use Rattle.room_model.specs.Calls.{BatchFault, InBatch, NoBatch, UndoFault, UndoInBatch, UndoClocksSpent, UndoBatchTooLarge, UndoTooLarge, SayFault, NotConnected, ValueTooDeep as SayTooDeep, TooLarge}
 use Rattle.room_model.specs.Comes.{FrameFault, BadServerFrame, Unexpected, NotATree, Gap, AccountFault, Parts}
 use Rattle.room_model.specs.Server.{reason_text}
-use Rattle.room_model.specs.Log.{State}
+use Rattle.room_log.specs.Log.{State}
 
 -- what a stop within a disk write leaves of what was not synced: nothing, all, or all with other bytes
 pub data How : Type 0 where

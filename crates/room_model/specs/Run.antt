@@ -1,7 +1,7 @@
 -- A run over a schedule: its report, its log, and what clients issued.
 use Rattle.std.specs.Prelude.{◌≡◌, ℕ, ◌==◌, Bool, true, false, ◌&&◌, ◌||◌, not, if◌then◌else◌, List, [], ◌∷◌, ◌++◌, Option, Some, None}
 use Rattle.std.specs.FinMap.{get}
-use Rattle.room_model.specs.Log.{State, Entry}
+use Rattle.room_log.specs.Log.{State, Entry}
 use Rattle.room_model.specs.Account.{Account, Batch, actor}
 use Rattle.room_model.specs.World.{World, Seat, Stepped, new_seat, opening, step}
 use Rattle.room_model.specs.Lines.{Line}

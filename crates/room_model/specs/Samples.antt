@@ -11,18 +11,18 @@ use Rattle.room_nodes.specs.declared.nodes.Body.TheVariants.{SetKey, Create, Upd
 use Rattle.room_nodes.specs.declared.nodes.Node.{Node}
 use Rattle.room_nodes.specs.declared.nodes.Change.{Change}
 use Rattle.room_nodes.specs.Shape.{Nodes, empty_tree, next_of}
-use Rattle.room_nodes.specs.Steps.{is_other}
+use Rattle.room_nodes.specs.Steps.{is_other, settle_all}
 use Rattle.room_ids.specs.Position.{between}
 use Rattle.room_msg.specs.declared.messages.ClientMsg.{ClientMsg}
 use Rattle.room_msg.specs.declared.messages.Hello.{Hello}
 use Rattle.room_msg.specs.declared.messages.ClientMsg.TheVariants as client
 use Rattle.room_msg.specs.declared.messages.ClientFrame.TheVariants.{Ping}
 use Rattle.room_msg.specs.declared.reason.Reason.TheVariants as reason
-use Rattle.room_model.specs.Log.{State, Update as TakenUpdate, op_of, settle_all}
-use Rattle.room_model.specs.Take.{Nothing, Gap, Takes, take}
+use Rattle.room_log.specs.Log.{State, Update as TakenUpdate, op_of}
+use Rattle.room_log.specs.Take.{Nothing, Gap, Takes, take}
 use Rattle.room_model.specs.Init.{Init, Plain, AnObject, AMap, AList, no_parts, part, no_inits, init, creates, made_id}
 use Rattle.room_model.specs.Edits.{Clocks, Edit, NoNode, WrongKind, Push, target, make_at, make_of, inserted_key, moved_key}
-use Rattle.room_model.specs.Reversal.{creation, key_restored, old_fields, old_update, gone_or}
+use Rattle.room_nodes.specs.Reversal.{creation, key_restored, old_fields, old_update, gone_or}
 use Rattle.room_model.specs.History.{empty_history, note, pause, resume, undone, undo_count, redo_count, undo_entry}
 use Rattle.room_model.specs.Notices.{Fields as FieldsOf, Take as TakeOf, Move, Key, apply_all}
 use Rattle.room_model.specs.Comes.{told_by, other_parts}

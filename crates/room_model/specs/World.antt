@@ -8,7 +8,7 @@ use Rattle.room_msg.specs.declared.messages.ClientFrame.TheVariants.{Msgs as Cli
 use Rattle.room_msg.specs.declared.messages.ServerFrame.TheVariants.{Pong as PongOf, Msgs as ServerMsgsOf}
 use Rattle.room_msg.specs.Written.{server_text}
 use Rattle.room_msg.specs.Frame.{client_frame_in}
-use Rattle.room_model.specs.Log.{State, Entry, after}
+use Rattle.room_log.specs.Log.{State, Entry, after}
 use Rattle.room_model.specs.Edits.{EditFault}
 use Rattle.room_model.specs.Notices.{Notice}
 use Rattle.room_model.specs.Account.{Account, Batch, new_account, is_some_list}

@@ -1,5 +1,5 @@
 -- A change that is taken back can be made again.
-use Rattle.std.proofs.Common.{◌≡◌, ℕ, inl, inr, Bool, true, false, not, ◌||◌, List, [], ◌∷◌, Some, None, is_some, refl, sym, ap, ◌∙◌, subst}
+use Rattle.std.proofs.Common.{◌≡◌, ℕ, inl, inr, Bool, true, false, not, ◌||◌, List, Some, None, is_some, refl, sym, ap, ◌∙◌, subst}
 use Rattle.std.specs.FinMap.{get, insert, remove, same_map, find}
 use Rattle.std.specs.Ordering.{nat_cmp}
 use Rattle.std.specs.Cmp.Lexicographic.{slice_cmp}

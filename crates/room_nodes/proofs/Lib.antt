@@ -1,6 +1,7 @@
 pub mod Again
 pub mod Below
 pub mod Children
+pub mod Childs
 pub mod Cutting
 pub mod EmptyTree
 pub mod Fitting
@@ -12,4 +13,6 @@ pub mod Putting
 pub mod Settling
 pub mod StepForm
 pub mod Steps
+pub mod Tours
 pub mod Undoing
+pub mod Walks

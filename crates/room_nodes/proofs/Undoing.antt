@@ -1,5 +1,5 @@
 -- Taking a leaf, and putting it back.
-use Rattle.std.proofs.Common.{◌≡◌, ◌≢◌, inl, inr, ◌+◌, List, [], ◌∷◌, ◌++◌, Option, Some, is_some, refl, sym, ap, ◌∙◌, subst, arith}
+use Rattle.std.proofs.Common.{◌≡◌, ◌≢◌, inl, inr, ◌+◌, Option, Some, is_some, sym, ap, ◌∙◌, arith}
 use Rattle.std.specs.FinMap.{get, insert, remove, same_map}
 use Rattle.room_nodes.specs.Shape.{Nodes, IsFormed, IsFree, fits_under}
 use Rattle.room_nodes.specs.Steps.{depth_in}

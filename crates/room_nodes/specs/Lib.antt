@@ -1,5 +1,11 @@
 pub mod Cells
+pub mod Equal
+pub mod Ordered
+pub mod Preorder
 pub mod Primitives
+pub mod Reversal
+pub mod Shallow
 pub mod Shape
+pub mod Sound
 pub mod Steps
 pub mod Turns

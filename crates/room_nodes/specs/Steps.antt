@@ -127,3 +127,8 @@ step t b = if is_void t b then t else effect t (settled_body t b)
 abbrev pub fold : Nodes → List Body → Nodes
 fold t [] = t
 fold t (b ∷ bs) = fold (step t b) bs
+
+-- each operation settled on the tree after those before it
+abbrev pub settle_all : Nodes → List Body → List Body
+settle_all t [] = []
+settle_all t (b ∷ bs) = settled_body t b ∷ settle_all (step t (settled_body t b)) bs

@@ -1,7 +1,7 @@
 use Rattle.std.proofs.Common.{◌++◌, option_map, sym, ap, ◌∙◌, append-nil}
 use Rattle.std.specs.Option.{option_copied}
 use Rattle.room_nodes.proofs.Gets.{some_none}
-use Rattle.room_items.proofs.Childs.{kid_there, kid_step, none_left}
+use Rattle.room_nodes.proofs.Childs.{kid_there, kid_step, none_left}
 use Rattle.room_items.proofs.kids.kids.Goals as goal
 
 pub unreachable-requires : goal.unreachable-requires

@@ -2,7 +2,7 @@ use Rattle.std.proofs.Common.{ℕ, List, ◌-◌, ◌++◌, [], ◌∷◌, flat_
 use Rattle.std.proofs.lemmas.Result.{on_ok_weaker}
 use Rattle.room_ids.specs.declared.ids.NodeId.{NodeId}
 use Rattle.room_nodes.specs.Shape.{children}
-use Rattle.room_items.specs.Preorder.{preorder_within}
+use Rattle.room_nodes.specs.Preorder.{preorder_within}
 use Rattle.room_items.proofs.Levels.{within_more}
 use Rattle.room_items.proofs.order.+push.Goals as goal
 

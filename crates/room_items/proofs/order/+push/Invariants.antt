@@ -1,5 +1,5 @@
 use Rattle.std.proofs.Common.{◌≡◌, ◌+◌, ◌*◌, ◌++◌, flat_map, drop}
-use Rattle.room_items.specs.Preorder.{preorder_within}
+use Rattle.room_nodes.specs.Preorder.{preorder_within}
 use Rattle.room_items.proofs.order.+push.Given as goal
 
 abbrev pub decreases-push_node : goal.decreases-push_node

@@ -1,0 +1,115 @@
+-- A batch that is undone is taken back by its reversal where it was made.
+use Rattle.std.proofs.Common.{◌≡◌, ℕ, List, [], ◌∷◌, refl, sym, ap, ◌∙◌, subst}
+use Rattle.std.specs.Prelude.{Option, Some, None, Result, Ok, Err}
+use Rattle.std.specs.FinMap.{get}
+use Rattle.room_nodes.specs.declared.nodes.Change.{Change}
+use Rattle.room_nodes.specs.declared.nodes.Body.{Body}
+use Rattle.room_nodes.specs.Shape.{Nodes}
+use Rattle.room_model.specs.Account.{Account, Batch, OpenBatch, shown}
+use Rattle.room_model.specs.History.{undo_entry}
+use Rattle.room_nodes.specs.Reversal.{reverse_all}
+use Rattle.room_model.specs.Calls as calls
+use Rattle.room_model.specs.Lines as lines
+use Rattle.room_model.specs.World
+use Rattle.room_model.specs.World.{World, Seat}
+use Rattle.room_model.specs.Run.{Run, run, line, seat_in, account}
+use Rattle.room_laws.specs.Open.{IsOpenOn, GoesBack}
+use Rattle.room_laws.specs.Lines.{AreQuiet, EachReversed}
+use Rattle.room_laws.proofs.Calls.{seat_same}
+use Rattle.room_laws.proofs.Open.{keeps_open, issued_bodies}
+use Rattle.room_laws.proofs.Seats.{Keeps, run_on}
+
+none_some : {A : Type 0} (x : A) → None ≡ Some x → ⊥
+none_some x e = cc
+
+begins_none : (t : Nodes) (x y : Account) (o : Option OpenBatch) → GoesBack t o → calls.begin_at x o ≡ Ok y → IsOpenOn t y
+begins_none t x y None g p = absurd g
+begins_none t x y (Some o) g p = cc
+
+backs_none : (t : Nodes) (way : calls.Way) (x : Account) (out : calls.Done) (o : Option OpenBatch) → GoesBack t o → calls.back_at way x o ≡ Ok (Some out) → IsOpenOn t out.account
+backs_none t way x out None g p = absurd g
+backs_none t way x out (Some o) g p = cc
+
+-- an open batch stays on its tree
+open_keeps : (t : Nodes) → Keeps (IsOpenOn t)
+open_keeps t = record {
+  edit = keeps_open.edit t;
+  begin = λ x y h p. begins_none t x y x.batch h.back p;
+  back = λ way x out h p. backs_none t way x out x.batch h.back p;
+  paused = keeps_open.pause t;
+  resumed = keeps_open.resume t;
+  cleared = keeps_open.clear t;
+  presence = keeps_open.presence t;
+  event = keeps_open.event t;
+  flushed = keeps_open.flushed t;
+  resent = keeps_open.resent t;
+  lost = keeps_open.lost t;
+  dialled = keeps_open.dialled t;
+  comes = keeps_open.comes t;
+}
+
+-- a line of a client that is there
+of_client_is : (w : World) (n c : ℕ) (l : lines.Line) (p : Seat) → get w.clients c ≡ Some p → World.of_client w n c l ≡ World.client_line w n c p l
+of_client_is w n c l p e = ap (λ o. World.client_at (World.seated_at w c o) n c l (get (World.seated_at w c o).clients c)) e ∙ ap (World.client_at w n c l) e
+
+account_is : (w : World) (c : ℕ) (o : Option Seat) → get w.clients c ≡ o → account w c ≡ (seat_in o).account
+account_is w c o e = ap (λ z. (seat_in z).account) e
+
+-- its beginning
+
+begun : (w : World) (n c : ℕ) (t : Nodes) (p : Seat) (o : Option OpenBatch) → p.account.batch ≡ o → o ≡ None → shown p.account ≡ Some t → IsOpenOn t (account (World.begin_out w n c p (calls.begin_at p.account o)).world c)
+begun w n c t p (Some o) e f s = cc
+begun w n c t p None e f s =
+    let y : Account = record (p.account) { batch = Some (record { bodies = []; changes = []; keys = [] }) } in
+    subst (λ (z : Seat). IsOpenOn t z.account) (sym (seat_same w c (World.with_account p y))) (keeps_open.batch_begin t p.account y s (ap (calls.begin_at p.account) e))
+
+begins_at : (w : World) (n c : ℕ) (t : Nodes) (o : Option Seat) → get w.clients c ≡ o → shown (account w c) ≡ Some t → (account w c).batch ≡ None → IsOpenOn t (account (World.of_client w n c (lines.Begin c)).world c)
+begins_at w n c t None e s b = absurd (none_some t (ap shown (sym (account_is w c None e)) ∙ s))
+begins_at w n c t (Some p) e s b =
+    let same = account_is w c (Some p) e in
+    subst (λ (z : World.Stepped). IsOpenOn t (account z.world c)) (sym (of_client_is w n c (lines.Begin c) p e))
+    (begun w n c t p p.account.batch refl (ap (λ (x : Account). x.batch) (sym same) ∙ b) (ap shown (sym same) ∙ s))
+
+-- its end
+
+head_is : {A : Type 0} (x y : A) → x ∷ [] ≡ y ∷ [] → x ≡ y
+head_is x y e = cc
+
+one_issued : (c : ℕ) (bs : List Batch) (b : Batch) → World.issued_by c bs ≡ (c, b) ∷ [] → bs ≡ b ∷ []
+one_issued c [] b e = cc
+one_issued c (x ∷ []) b e = ap (λ (z : ℕ × Batch). z.1 ∷ []) (head_is (c, x) (c, b) e)
+one_issued c (x ∷ y ∷ ys) b e = cc
+
+ended : (w : World) (n c : ℕ) (p : Seat) (b : Batch) (o : Option OpenBatch) (q : OpenBatch) → o ≡ Some q → (World.end_out w n c p (calls.end_at p.account o)).issues ≡ (c, b) ∷ [] → b.bodies ≡ q.bodies
+ended w n c p b None q e i = cc
+ended w n c p b (Some o) q e i = issued_bodies p.account o.bodies b (one_issued c (calls.issues_of p.account o.bodies) b i) ∙ ap (λ (z : OpenBatch). z.bodies) (some_is o q e)
+  where
+    some_is : (x y : OpenBatch) → Some x ≡ Some y → x ≡ y
+    some_is x y j = cc
+
+ends_at : (w : World) (n c : ℕ) (b : Batch) (q : OpenBatch) (o : Option Seat) → get w.clients c ≡ o → (account w c).batch ≡ Some q → (World.of_client w n c (lines.End c)).issues ≡ (c, b) ∷ [] → b.bodies ≡ q.bodies
+ends_at w n c b q None e f i = absurd (none_some q (ap (λ (x : Account). x.batch) (sym (account_is w c None e)) ∙ f))
+ends_at w n c b q (Some p) e f i = ended w n c p b p.account.batch q (ap (λ (x : Account). x.batch) (sym (account_is w c (Some p) e)) ∙ f)
+    (ap (λ (z : World.Stepped). z.issues) (sym (of_client_is w n c (lines.End c) p e)) ∙ i)
+
+-- its undoing
+
+backed : (w : World) (n c : ℕ) (p : Seat) (b : Batch) (e : List Change) (r : Result (Option calls.Done) calls.UndoFault) → calls.go_back calls.Undo p.account ≡ r → undo_entry p.account.history ≡ Some e
+    → (World.back_out w n c p r).issues ≡ (c, b) ∷ [] → b.bodies ≡ calls.entry_bodies e
+backed w n c p b e (Err fault) i f j = cc
+backed w n c p b e (Ok None) i f j = cc
+backed w n c p b e (Ok (Some out)) i f j = keeps_open.go_back calls.Undo p.account e b out f i (one_issued c out.issues b j)
+
+undoes_at : (w : World) (n c : ℕ) (b : Batch) (e : List Change) (o : Option Seat) → get w.clients c ≡ o → undo_entry (account w c).history ≡ Some e → (World.of_client w n c (lines.Undo c)).issues ≡ (c, b) ∷ [] → b.bodies ≡ calls.entry_bodies e
+undoes_at w n c b e None g f i = absurd (none_some e (ap (λ (x : Account). undo_entry x.history) (sym (account_is w c None g)) ∙ f))
+undoes_at w n c b e (Some p) g f i = backed w n c p b e (calls.go_back calls.Undo p.account) refl (ap (λ (x : Account). undo_entry x.history) (sym (account_is w c (Some p) g)) ∙ f)
+    (ap (λ (z : World.Stepped). z.issues) (sym (of_client_is w n c (lines.Undo c) p g)) ∙ i)
+
+pub each_reversed : EachReversed
+each_reversed r c t ls ms i j k o made back shows none quiet stood issued entry undone =
+    let begin : IsOpenOn t (account (line r i (lines.Begin c)).world c) = begins_at r.world i c t (get r.world.clients c) refl shows none in
+    let end : IsOpenOn t (account (run (line r i (lines.Begin c)) ls).world c) = run_on (IsOpenOn t) (open_keeps t) c (line r i (lines.Begin c)) ls begin quiet in
+    let back_is : GoesBack t (Some o) = subst (GoesBack t) stood end.back in
+    let w = (run (line r i (lines.Begin c)) ls).world in
+    let v = (run (line (run (line r i (lines.Begin c)) ls) j (lines.End c)) ms).world in
+    undoes_at v k c back o.changes (get v.clients c) refl entry undone ∙ back_is ∙ ap (reverse_all t) (sym (ends_at w j c made o (get w.clients c) refl stood issued))

@@ -1,0 +1,294 @@
+-- What every line keeps of one client's account.
+use Rattle.std.proofs.Common.{◌≡◌, ℕ, ◌+◌, ◌⊎◌, inl, inr, Bool, true, false, cond, List, [], ◌∷◌, ◌++◌, map, refl, sym, ap, ◌∙◌, subst, ⊎_elim}
+use Rattle.std.specs.Prelude.{Option, Some, None, is_some, Result, Ok, Err}
+use Rattle.std.proofs.lemmas.Bool.{cases_eq}
+use Rattle.std.specs.FinMap.{FinMap, get}
+use Rattle.std.specs.Ordering.{nat_cmp}
+use Rattle.room_json.specs.Value.{Value}
+use Rattle.room_json.specs.declared.tree.Json.{Json}
+use Rattle.room_msg.specs.declared.messages.ServerMsg.{ServerMsg}
+use Rattle.room_msg.specs.declared.messages.ClientMsg.{ClientMsg}
+use Rattle.room_log.specs.Log.{State}
+use Rattle.room_model.specs.Account.{Account, new_account}
+use Rattle.room_model.specs.Edits.{Edit, EditFault}
+use Rattle.room_model.specs.Calls as calls
+use Rattle.room_model.specs.Comes
+use Rattle.room_model.specs.Server
+use Rattle.room_model.specs.Server.{Down, Pong, Message, Closed, Up, Served}
+use Rattle.room_model.specs.Lines as lines
+use Rattle.room_model.specs.World
+use Rattle.room_model.specs.World.{World, Conn, Seat, Host, Running, Stopped}
+use Rattle.room_model.specs.Run.{Run, seat, seat_in, account, line, run}
+use Rattle.room_laws.specs.Open.{brings_none}
+use Rattle.room_laws.specs.Lines.{ComesQuietly, IsQuiet, AreQuiet}
+use Rattle.room_laws.proofs.Calls.{seat_same, seat_other}
+use Rattle.room_laws.proofs.Maps.{get_same, get_other}
+
+pub record Keeps (P : Account → Type 0) : Type 0 where
+  pub edit : (x : Account) (e : Edit) (out : calls.Done) → P x → calls.edit x e ≡ Ok out → P out.account
+  pub begin : (x y : Account) → P x → calls.batch_begin x ≡ Ok y → P y
+  pub back : (way : calls.Way) (x : Account) (out : calls.Done) → P x → calls.go_back way x ≡ Ok (Some out) → P out.account
+  pub paused : (x : Account) → P x → P (calls.pause x)
+  pub resumed : (x : Account) → P x → P (calls.resume x)
+  pub cleared : (x : Account) → P x → P (calls.clear x)
+  pub presence : (x y : Account) (patch : List (List ℕ × Value)) (in_history : Bool) → P x → calls.presence x patch in_history ≡ Ok y → P y
+  pub event : (x y : Account) (e : Json) → P x → calls.event x e ≡ Ok y → P y
+  pub flushed : (x : Account) → P x → P (calls.flushed x)
+  pub resent : (x : Account) → P x → P (calls.resent x)
+  pub lost : (x : Account) → P x → P (calls.lost x)
+  pub dialled : (x : Account) → P x → P (calls.dialled x)
+  pub comes : (x : Account) (m : ServerMsg) (out : Comes.Took) → brings_none m ≡ true → P x → Comes.comes x m ≡ Ok out → P out.account
+
+send_clients : (w : World) (k : ℕ) (us : List Up) (b : Bool) (o : Option Conn) → (World.ups_on w k us b o).clients ≡ w.clients
+send_clients w k us true (Some q) = refl
+send_clients w k us true None = refl
+send_clients w k us false o = refl
+
+present_clients : (w : World) (o : Option ℕ) (fs : List (List ClientMsg)) → (World.send_present w o fs).clients ≡ w.clients
+present_clients w None fs = refl
+present_clients w (Some k) fs = send_clients w k (map World.frame_up fs) (World.is_attached w k) (get w.conns k)
+
+cut_clients : (w : World) (o : Option ℕ) → (World.cut_present w o).clients ≡ w.clients
+cut_clients w None = refl
+cut_clients w (Some k) = refl
+
+-- what the server's lines do leaves the clients
+
+fires_clients : (w : World) (n m : State) (b : Bool) (es : List _) → (cond b (record { world = World.stopped w n; lines = []; entries = es; issues = []; given = [] }) (World.quiet (World.stopped w m))).world.clients ≡ w.clients
+fires_clients w n m true es = refl
+fires_clients w n m false es = refl
+
+answered_clients : (w : World) (v : Server.Server) (k : ℕ) (out : Served) (b : World.Burnt) → (World.answered w v k out b).world.clients ≡ w.clients
+answered_clients w v k out (World.Intact f) = refl
+answered_clients w v k out (World.Fires call how) = fires_clients w (World.state_with v.state out.entry) v.state (World.is_kept call how) (World.entries_in out.entry)
+
+up_clients : (w : World) (k : ℕ) (g : Host) (q : Conn) (us : List Up) → (World.up_from w k g q us).world.clients ≡ w.clients
+up_clients w k (Running v) q (u ∷ us) = answered_clients (World.with_conn w k (record q { up = us })) v k (Server.serve v k u) (World.burn (World.commit_calls (Server.serve v k u).entry) w.fuse)
+up_clients w k (Running v) q [] = refl
+up_clients w k (Stopped s) q us = refl
+
+goes_up_clients : (w : World) (k : ℕ) (o : Option Conn) → (World.up_at w k o).world.clients ≡ w.clients
+goes_up_clients w k None = refl
+goes_up_clients w k (Some q) = up_clients w k w.host q q.up
+
+gone_clients : (w : World) (k : ℕ) (g : Host) (b : Bool) → (World.gone_on w k g b).clients ≡ w.clients
+gone_clients w k (Running v) true = refl
+gone_clients w k (Running v) false = refl
+gone_clients w k (Stopped s) b = refl
+
+stop_clients : (w : World) (g : Host) → (World.stop w g).clients ≡ w.clients
+stop_clients w (Running v) = refl
+stop_clients w (Stopped s) = refl
+
+started_clients : (w : World) (s : State) (b : World.Burnt) → (World.started w s b).world.clients ≡ w.clients
+started_clients w s (World.Intact f) = refl
+started_clients w s (World.Fires call how) = refl
+
+start_clients : (w : World) (g : Host) → (World.start w g).world.clients ≡ w.clients
+start_clients w (Running v) = refl
+start_clients w (Stopped s) = started_clients w s (World.burn 2 w.fuse)
+
+compacted_clients : (w : World) (v : Server.Server) (b : World.Burnt) → (World.compacted w v b).clients ≡ w.clients
+compacted_clients w v (World.Intact f) = refl
+compacted_clients w v (World.Fires call how) = refl
+
+compact_clients : (w : World) (g : Host) → (World.compact w g).clients ≡ w.clients
+compact_clients w (Running v) = compacted_clients w v (World.burn 6 w.fuse)
+compact_clients w (Stopped s) = refl
+
+raw_on_clients : (w : World) (k : ℕ) (text : List ℕ) (o : Option ℕ) → (World.raw_on w k text o).clients ≡ w.clients
+raw_on_clients w k text None = send_clients w k _ (World.is_attached w k) (get w.conns k)
+raw_on_clients w k text (Some c) = refl
+
+raw_clients : (w : World) (k : ℕ) (text : List ℕ) (o : Option Conn) → (World.raw_at w k text o).clients ≡ w.clients
+raw_clients w k text None = refl
+raw_clients w k text (Some q) = raw_on_clients w k text q.owner
+
+module _ (P : Account → Type 0) (keep : Keeps P) (c : ℕ) where
+  abbrev On : World → Type 0
+  On w = P (account w c)
+
+  same : (v w : World) → v.clients ≡ w.clients → On w → On v
+  same v w e h = subst P (ap (λ (m : FinMap nat_cmp Seat). (seat_in (get m c)).account) (sym e)) h
+
+  seats : (w : World) (d : ℕ) (q : Seat) → On w → (d ≡ c → P q.account) → On (World.with_seat w d q)
+  seats w d q h f = ⊎_elim
+      (λ e. subst (λ n. P (account (World.with_seat w n q) c)) e (subst P (ap (λ (z : Seat). z.account) (sym (seat_same w c q))) (f (sym e))))
+      (λ e. subst P (ap (λ (z : Seat). z.account) (sym (seat_other w d c q e))) h)
+      (cases_eq c d)
+
+  module _ (w : World) (number d : ℕ) (p : Seat) (h : On w) (hp : d ≡ c → P p.account) where
+    put : (y : Account) (o : Option ℕ) (ns : List _) → (d ≡ c → P y) → On (World.with_seat w d (record { account = y; present = o; noticed = ns }))
+    put y o ns f = seats w d (record { account = y; present = o; noticed = ns }) h f
+
+    edits : (e : Edit) (r : Result calls.Done EditFault) → calls.edit p.account e ≡ r → On (World.edit_out w number d p r).world
+    edits e (Err fault) i = h
+    edits e (Ok out) i = put out.account p.present out.notices (λ j. keep.edit p.account e out (hp j) i)
+
+    begins : (r : Result Account calls.BatchFault) → calls.batch_begin p.account ≡ r → On (World.begin_out w number d p r).world
+    begins (Err fault) i = h
+    begins (Ok y) i = put y p.present p.noticed (λ j. keep.begin p.account y (hp j) i)
+
+    ends : (r : Result calls.Done calls.BatchFault) → (d ≡ c → ⊥) → On (World.end_out w number d p r).world
+    ends (Err fault) i = h
+    ends (Ok out) i = put out.account p.present p.noticed (λ j. absurd (i j))
+
+    backs : (way : calls.Way) (r : Result (Option calls.Done) calls.UndoFault) → calls.go_back way p.account ≡ r → On (World.back_out w number d p r).world
+    backs way (Err fault) i = h
+    backs way (Ok None) i = h
+    backs way (Ok (Some out)) i = put out.account p.present out.notices (λ j. keep.back way p.account out (hp j) i)
+
+    says : (r : Result Account calls.SayFault) → ((y : Account) → r ≡ Ok y → d ≡ c → P y) → On (World.say_out w number d p r).world
+    says (Err fault) f = h
+    says (Ok y) f = put y p.present p.noticed (λ j. f y refl j)
+
+    speaks : (y : Account) (fs : List (List ClientMsg)) → (d ≡ c → P y) → On (World.speaks w d p y fs).world
+    speaks y fs f = same (World.send_present (World.with_seat w d (World.with_account p y)) p.present fs) (World.with_seat w d (World.with_account p y)) (present_clients (World.with_seat w d (World.with_account p y)) p.present fs) (put y p.present p.noticed f)
+
+    cuts : (y : Account) → (d ≡ c → P y) → On (World.with_seat (World.cut_present w p.present) d (record { account = y; present = None; noticed = p.noticed }))
+    cuts y f = seats (World.cut_present w p.present) d (record { account = y; present = None; noticed = p.noticed }) (same (World.cut_present w p.present) w (cut_clients w p.present) h) f
+
+    dials : On (World.dial_seat w d p)
+    dials =
+        let v = World.open_conn (World.cut_present w p.present) (Some d) in
+        let q : Seat = record { account = calls.dialled p.account; present = Some (w.opened + 1); noticed = p.noticed } in
+        let u = World.with_seat v d q in
+        same (World.dial_seat w d p) u (send_clients u (w.opened + 1) _ (World.is_attached u (w.opened + 1)) (get u.conns (w.opened + 1)))
+        (seats v d q (same v w (cut_clients w p.present) h) (λ j. keep.dialled p.account (hp j)))
+
+    line_on : (l : lines.Line) → ((e : ℕ) → l ≡ lines.End e → d ≡ c → ⊥) → On (World.client_line w number d p l).world
+    line_on (lines.Dial e) g = dials
+    line_on (lines.Edits e f) g = edits f (calls.edit p.account f) refl
+    line_on (lines.Begin e) g = begins (calls.batch_begin p.account) refl
+    line_on (lines.End e) g = ends (calls.batch_end p.account) (g e refl)
+    line_on (lines.Undo e) g = backs calls.Undo (calls.go_back calls.Undo p.account) refl
+    line_on (lines.Redo e) g = backs calls.Redo (calls.go_back calls.Redo p.account) refl
+    line_on (lines.Pause e) g = put (calls.pause p.account) p.present p.noticed (λ j. keep.paused p.account (hp j))
+    line_on (lines.Resume e) g = put (calls.resume p.account) p.present p.noticed (λ j. keep.resumed p.account (hp j))
+    line_on (lines.Clear e) g = put (calls.clear p.account) p.present p.noticed (λ j. keep.cleared p.account (hp j))
+    line_on (lines.Presence e patch in_history) g = says (calls.presence p.account patch in_history) (λ y i j. keep.presence p.account y patch in_history (hp j) i)
+    line_on (lines.Event e f) g = says (calls.event p.account f) (λ y i j. keep.event p.account y f (hp j) i)
+    line_on (lines.Flush e) g = speaks (calls.flushed p.account) (calls.flush_frames p.account) (λ j. keep.flushed p.account (hp j))
+    line_on (lines.Resend e) g = speaks (calls.resent p.account) (calls.resend_frames p.account) (λ j. keep.resent p.account (hp j))
+    line_on (lines.Cut e) g = cuts (calls.lost p.account) (λ j. keep.lost p.account (hp j))
+    line_on (lines.Goes_up k) g = h
+    line_on (lines.Comes_down k) g = h
+    line_on (lines.Drain n) g = h
+    line_on (lines.Gone k) g = h
+    line_on lines.Stop g = h
+    line_on lines.Start g = h
+    line_on (lines.Fuse n how) g = h
+    line_on lines.Compact g = h
+    line_on (lines.Limit updates sessions) g = h
+    line_on lines.Link g = h
+    line_on (lines.Raw k text) g = h
+    line_on (lines.Show spot) g = h
+    line_on (lines.Brief spot) g = h
+    line_on (lines.Others e) g = h
+    line_on (lines.HistoryOf e) g = h
+    line_on (lines.NoticesOf e) g = h
+
+    -- what comes down
+    frame_on : (k : ℕ) (r : Result Comes.Took Comes.Refusal) → ((out : Comes.Took) → r ≡ Ok out → d ≡ c → P out.account) → ((out : Comes.Refusal) → r ≡ Err out → d ≡ c → P out.account) → On (World.frame_taken w number d k p r).world
+    frame_on k (Err out) f g = cuts out.account (λ j. g out refl j)
+    frame_on k (Ok out) f g =
+        let u = World.with_seat w d (record { account = out.account; present = p.present; noticed = out.notices }) in
+        same (World.send_up u k (map World.frame_up out.replies)) u (send_clients u k (map World.frame_up out.replies) (World.is_attached u k) (get u.conns k)) (put out.account p.present out.notices (λ j. f out refl j))
+
+    next_on : (k : ℕ) (m : ServerMsg) (r : Result Comes.Took Comes.FrameFault) → (d ≡ c → brings_none m ≡ true) → Comes.comes p.account m ≡ r → On (World.frame_taken w number d k p (Comes.took_next (Comes.took p.account) r)).world
+    next_on k m (Err fault) b i = cuts (calls.lost p.account) (λ j. keep.lost p.account (hp j))
+    next_on k m (Ok out) b i =
+        let u = World.with_seat w d (record { account = out.account; present = p.present; noticed = out.notices }) in
+        same (World.send_up u k (map World.frame_up out.replies)) u (send_clients u k (map World.frame_up out.replies) (World.is_attached u k) (get u.conns k))
+        (put out.account p.present out.notices (λ j. keep.comes p.account m out (b j) (hp j) i))
+
+    takes_on : (k : ℕ) (m : Down) → ((n : ServerMsg) → m ≡ Message n → d ≡ c → brings_none n ≡ true) → On (World.client_takes w number d k p m).world
+    takes_on k Pong b = frame_on k (Ok (Comes.took p.account)) (λ out i j. subst (λ (z : Comes.Took). P z.account) (ok_is _ _ i) (hp j)) (λ out i j. absurd (ok_err _ _ i))
+      where
+        ok_is : (x y : Comes.Took) → ◌≡◌ {A = Result Comes.Took Comes.Refusal} (Ok x) (Ok y) → x ≡ y
+        ok_is x y e = cc
+
+        ok_err : (x : Comes.Took) (y : Comes.Refusal) → ◌≡◌ {A = Result Comes.Took Comes.Refusal} (Ok x) (Err y) → ⊥
+        ok_err x y e = cc
+    takes_on k (Message n) b = next_on k n (Comes.comes p.account n) (b n refl) refl
+    takes_on k (Closed code text) b = cuts (calls.lost p.account) (λ j. keep.lost p.account (hp j))
+
+  seat_got : (w : World) (d : ℕ) (o : Option Seat) → get w.clients d ≡ o → On w → d ≡ c → P (seat_in o).account
+  seat_got w d o e h j = subst (λ z. P (seat_in z).account) e (subst (λ n. P (seat_in (get w.clients n)).account) (sym j) h)
+
+  seated_on : (w : World) (d : ℕ) (o : Option Seat) → get w.clients d ≡ o → On w → On (World.seated_at w d o)
+  seated_on w d (Some p) e h = h
+  seated_on w d None e h = seats w d World.new_seat h (λ j. seat_got w d None e h j)
+
+  client_on : (u : World) (number d : ℕ) (l : lines.Line) (o : Option Seat) → get u.clients d ≡ o → On u → ((e : ℕ) → l ≡ lines.End e → d ≡ c → ⊥) → On (World.client_at u number d l o).world
+  client_on u number d l None e h g = h
+  client_on u number d l (Some p) e h g = line_on u number d p h (λ j. seat_got u d (Some p) e h j) l g
+
+  of_client_on : (w : World) (number d : ℕ) (l : lines.Line) → On w → ((e : ℕ) → l ≡ lines.End e → d ≡ c → ⊥) → On (World.of_client w number d l).world
+  of_client_on w number d l h g = client_on (World.seated w d) number d l (get (World.seated w d).clients d) refl (seated_on w d (get w.clients d) refl h) g
+
+  -- what comes down
+
+  link_on : (w : World) (k : ℕ) (m : Down) → On w → On (World.link_takes w k m).world
+  link_on w k Pong h = h
+  link_on w k (Message m) h = h
+  link_on w k (Closed code text) h = h
+
+  taken_on : (w : World) (number d k : ℕ) (m : Down) (o : Option Seat) → get w.clients d ≡ o → On w → ((n : ServerMsg) → m ≡ Message n → d ≡ c → brings_none n ≡ true) → On (World.taken_by w number d k m o).world
+  taken_on w number d k m None e h b = h
+  taken_on w number d k m (Some p) e h b = takes_on w number d p h (λ j. seat_got w d (Some p) e h j) k m b
+
+  owner_on : (w : World) (number k : ℕ) (m : Down) (o : Option ℕ) → On w → ((n : ServerMsg) → m ≡ Message n → o ≡ Some c → brings_none n ≡ true) → On (World.owner_takes w number k m o).world
+  owner_on w number k m None h b = link_on w k m h
+  owner_on w number k m (Some d) h b = taken_on w number d k m (get w.clients d) refl h (λ n i j. b n i (ap Some j))
+
+  from_on : (w : World) (number k : ℕ) (q : Conn) (ds : List Down) → q.down ≡ ds → get w.conns k ≡ Some q → On w → ComesQuietly w c k → On (World.down_from w number k q ds).world
+  from_on w number k q [] i e h b = h
+  from_on w number k q (m ∷ ms) i e h b = owner_on (World.with_conn w k (record q { down = ms })) number k m q.owner h (λ n f o. b.quiet q n ms e o (i ∙ ap (λ z. z ∷ ms) f))
+
+  down_on : (w : World) (number k : ℕ) (o : Option Conn) → get w.conns k ≡ o → On w → ComesQuietly w c k → On (World.down_at w number k o).world
+  down_on w number k None e h b = h
+  down_on w number k (Some q) e h b = from_on w number k q q.down refl e h b
+
+  -- any line
+
+  not_end : (l : lines.Line) → ((e : ℕ) → l ≡ lines.End e → ⊥) → (d e : ℕ) → l ≡ lines.End e → d ≡ c → ⊥
+  not_end l f d e i j = f e i
+
+  pub step_on : (w : World) (number : ℕ) (l : lines.Line) → On w → IsQuiet w c l → On (World.step w number l).world
+  step_on w number (lines.Dial d) h q = of_client_on w number d (lines.Dial d) h (λ e i j. cc)
+  step_on w number (lines.Edits d f) h q = of_client_on w number d (lines.Edits d f) h (λ e i j. cc)
+  step_on w number (lines.Begin d) h q = of_client_on w number d (lines.Begin d) h (λ e i j. cc)
+  step_on w number (lines.End d) h q = of_client_on w number d (lines.End d) h (λ e i j. q j)
+  step_on w number (lines.Undo d) h q = of_client_on w number d (lines.Undo d) h (λ e i j. cc)
+  step_on w number (lines.Redo d) h q = of_client_on w number d (lines.Redo d) h (λ e i j. cc)
+  step_on w number (lines.Pause d) h q = of_client_on w number d (lines.Pause d) h (λ e i j. cc)
+  step_on w number (lines.Resume d) h q = of_client_on w number d (lines.Resume d) h (λ e i j. cc)
+  step_on w number (lines.Clear d) h q = of_client_on w number d (lines.Clear d) h (λ e i j. cc)
+  step_on w number (lines.Presence d patch in_history) h q = of_client_on w number d (lines.Presence d patch in_history) h (λ e i j. cc)
+  step_on w number (lines.Event d f) h q = of_client_on w number d (lines.Event d f) h (λ e i j. cc)
+  step_on w number (lines.Flush d) h q = of_client_on w number d (lines.Flush d) h (λ e i j. cc)
+  step_on w number (lines.Resend d) h q = of_client_on w number d (lines.Resend d) h (λ e i j. cc)
+  step_on w number (lines.Cut d) h q = of_client_on w number d (lines.Cut d) h (λ e i j. cc)
+  step_on w number (lines.Show (lines.AClient d)) h q = of_client_on w number d (lines.Show (lines.AClient d)) h (λ e i j. cc)
+  step_on w number (lines.Show lines.TheServer) h q = h
+  step_on w number (lines.Brief (lines.AClient d)) h q = of_client_on w number d (lines.Brief (lines.AClient d)) h (λ e i j. cc)
+  step_on w number (lines.Brief lines.TheServer) h q = h
+  step_on w number (lines.Others d) h q = of_client_on w number d (lines.Others d) h (λ e i j. cc)
+  step_on w number (lines.HistoryOf d) h q = of_client_on w number d (lines.HistoryOf d) h (λ e i j. cc)
+  step_on w number (lines.NoticesOf d) h q = of_client_on w number d (lines.NoticesOf d) h (λ e i j. cc)
+  step_on w number (lines.Goes_up k) h q = same (World.goes_up w k).world w (goes_up_clients w k (get w.conns k)) h
+  step_on w number (lines.Comes_down k) h q = down_on w number k (get w.conns k) refl h q
+  step_on w number (lines.Drain n) h q = absurd q
+  step_on w number (lines.Gone k) h q = same (World.goes w k) w (gone_clients w k w.host (World.is_attached w k)) h
+  step_on w number lines.Stop h q = same (World.stop w w.host) w (stop_clients w w.host) h
+  step_on w number lines.Start h q = same (World.start w w.host).world w (start_clients w w.host) h
+  step_on w number (lines.Fuse n how) h q = h
+  step_on w number lines.Compact h q = same (World.compact w w.host) w (compact_clients w w.host) h
+  step_on w number (lines.Limit updates sessions) h q = h
+  step_on w number lines.Link h q = h
+  step_on w number (lines.Raw k text) h q = same (World.raw_at w k text (get w.conns k)) w (raw_clients w k text (get w.conns k)) h
+
+  pub run_on : (r : Run) (ls : List (ℕ × lines.Line)) → On r.world → AreQuiet r c ls → On (run r ls).world
+  run_on r [] h q = h
+  run_on r (l ∷ ls) h q = run_on (line r l.0 l.1) ls (step_on r.world l.0 l.1 h q.0) q.1

@@ -1,0 +1,154 @@
+-- Every line keeps the invariant, and so it stands in every run.
+use Rattle.std.proofs.Common.{◌≡◌, ℕ, zero, suc, ◌+◌, ◌<◌, ◌≤◌, ◌⊎◌, inl, inr, Bool, true, false, List, [], ◌∷◌, ◌++◌, length, refl, sym, ap, ◌∙◌, subst, arith, append-nil, append_assoc}
+use Rattle.std.specs.Prelude.{Option, Some, None, is_some}
+use Rattle.std.specs.FinMap.{get, entries, empty, get-empty}
+use Rattle.std.specs.Ordering.{nat_cmp}
+use Rattle.room_nodes.specs.Shape.{Nodes}
+use Rattle.room_items.specs.Items.{tree_in, items_of}
+use Rattle.room_log.specs.Log.{State, Session, Update, updates_of}
+use Rattle.room_model.specs.Lines as lines
+use Rattle.room_model.specs.World
+use Rattle.room_model.specs.Run.{Run, seat, seat_in, account, with_step, run, line, opened, IsUndisturbed}
+use Rattle.room_laws.specs.Core.{core}
+use Rattle.room_laws.specs.Invariant
+use Rattle.room_laws.specs.Laws.{ReadsBack, IsReadable, EachShows, EachOnce}
+use Rattle.room_laws.proofs.Maps.{get_none}
+use Rattle.room_laws.proofs.ClientLines.{keeps_of_client}
+use Rattle.room_laws.proofs.OwnLines.{keeps_saying}
+use Rattle.room_laws.proofs.Downs.{keeps_down}
+use Rattle.room_laws.proofs.Leaving.{keeps_gone}
+use Rattle.room_laws.proofs.Links.{keeps_link, keeps_raw}
+use Rattle.room_laws.proofs.Stops.{keeps_fuse, keeps_stop, keeps_compact, keeps_limit, keeps_start}
+use Rattle.room_laws.proofs.Runs.{updates_of-append}
+use Rattle.room_laws.proofs.Frame.{keeps_up}
+use Rattle.room_laws.proofs.Follows.{kept, shows}
+
+-- the invariant, as far as the trees of the log are read again
+abbrev pub Good : State → Run → Type 0
+Good s r = ReadsBack s (updates_of r.log) → Invariant.Inv s r
+
+before : (s : State) (us vs : List Update) → ReadsBack s (us ++ vs) → ReadsBack s us
+before s us vs h ws xs e = h ws (xs ++ vs) (ap (λ ys. ys ++ vs) e ∙ append_assoc ws xs vs)
+
+log_before : (s : State) (r : Run) (out : World.Stepped) → ReadsBack s (updates_of (r.log ++ out.entries)) → ReadsBack s (updates_of r.log)
+log_before s r out h = before s (updates_of r.log) (updates_of out.entries) (subst (ReadsBack s) (updates_of-append r.log out.entries) h)
+
+-- one step after another
+twice : (s : State) (r : Run) (a b : World.Stepped) → Good s (with_step (with_step r a) b) → Good s (with_step r (World.then_stepped a b))
+twice s r a b h = rw (← append_assoc r.log a.entries b.entries, ← append_assoc r.issued a.issues b.issues, ← append_assoc r.given a.given b.given) h
+
+module _ (s : State) where
+  lift : (r : Run) (out : World.Stepped) → (Invariant.Inv s r → Invariant.Inv s (with_step r out)) → Good s r → Good s (with_step r out)
+  lift r out f g h = f (g (log_before s r out h))
+
+  up : (r : Run) (k : ℕ) → Good s r → Good s (with_step r (World.goes_up r.world k))
+  up r k g h = keeps_up s r k (g (log_before s r (World.goes_up r.world k) h)) h
+
+  saying : (r : Run) (ls : List (List ℕ)) → Good s r → Good s (with_step r (World.saying r.world ls))
+  saying r ls = lift r (World.saying r.world ls) (keeps_saying s r ls)
+
+  drain_step_keeps : (r : Run) (number : ℕ) (a b : Option ℕ) → Good s r → Good s (with_step r (World.or_quiet r.world (World.drain_step r.world number a b)))
+  drain_step_keeps r number (Some k) b st = up r k st
+  drain_step_keeps r number None (Some k) st = lift r (World.comes_down r.world number k) (λ i. keeps_down s r number k i) st
+  drain_step_keeps r number None None st = saying r [] st
+
+  drain_from_keeps : (r : Run) (number n : ℕ) (so_far : World.Stepped) → Good s (with_step r so_far) → Good s (with_step r (World.drain_from n number so_far))
+  drain_from_keeps r number zero so_far st = st
+  drain_from_keeps r number (suc n) so_far st =
+      let w = so_far.world in
+      drain_from_keeps r number n (World.then_stepped so_far (World.or_quiet w (World.drain_next w number)))
+      (twice s r so_far (World.or_quiet w (World.drain_next w number))
+      (drain_step_keeps (with_step r so_far) number (World.least World.has_up (entries w.conns)) (World.least World.has_down (entries w.conns)) st))
+
+  keeps_drain : (r : Run) (number n : ℕ) → Good s r → Good s (with_step r (World.drain r.world number n))
+  unfolding World.drain
+  keeps_drain r number n st = drain_from_keeps r number n (World.quiet r.world) (saying r [] st)
+
+  pub keeps : (r : Run) (number : ℕ) (l : lines.Line) → Good s r → Good s (line r number l)
+  keeps r number (lines.Dial c) st = lift r (World.step r.world number (lines.Dial c)) (keeps_of_client s r number c (lines.Dial c)) st
+  keeps r number (lines.Edits c e) st = lift r (World.step r.world number (lines.Edits c e)) (keeps_of_client s r number c (lines.Edits c e)) st
+  keeps r number (lines.Begin c) st = lift r (World.step r.world number (lines.Begin c)) (keeps_of_client s r number c (lines.Begin c)) st
+  keeps r number (lines.End c) st = lift r (World.step r.world number (lines.End c)) (keeps_of_client s r number c (lines.End c)) st
+  keeps r number (lines.Undo c) st = lift r (World.step r.world number (lines.Undo c)) (keeps_of_client s r number c (lines.Undo c)) st
+  keeps r number (lines.Redo c) st = lift r (World.step r.world number (lines.Redo c)) (keeps_of_client s r number c (lines.Redo c)) st
+  keeps r number (lines.Pause c) st = lift r (World.step r.world number (lines.Pause c)) (keeps_of_client s r number c (lines.Pause c)) st
+  keeps r number (lines.Resume c) st = lift r (World.step r.world number (lines.Resume c)) (keeps_of_client s r number c (lines.Resume c)) st
+  keeps r number (lines.Clear c) st = lift r (World.step r.world number (lines.Clear c)) (keeps_of_client s r number c (lines.Clear c)) st
+  keeps r number (lines.Presence c patch in_history) st = lift r (World.step r.world number (lines.Presence c patch in_history)) (keeps_of_client s r number c (lines.Presence c patch in_history)) st
+  keeps r number (lines.Event c e) st = lift r (World.step r.world number (lines.Event c e)) (keeps_of_client s r number c (lines.Event c e)) st
+  keeps r number (lines.Flush c) st = lift r (World.step r.world number (lines.Flush c)) (keeps_of_client s r number c (lines.Flush c)) st
+  keeps r number (lines.Resend c) st = lift r (World.step r.world number (lines.Resend c)) (keeps_of_client s r number c (lines.Resend c)) st
+  keeps r number (lines.Cut c) st = lift r (World.step r.world number (lines.Cut c)) (keeps_of_client s r number c (lines.Cut c)) st
+  keeps r number (lines.Show (lines.AClient c)) st = lift r (World.step r.world number (lines.Show (lines.AClient c))) (keeps_of_client s r number c (lines.Show (lines.AClient c))) st
+  keeps r number (lines.Show lines.TheServer) st = saying r (World.server_shown r.world.host ∷ []) st
+  keeps r number (lines.Brief (lines.AClient c)) st = lift r (World.step r.world number (lines.Brief (lines.AClient c))) (keeps_of_client s r number c (lines.Brief (lines.AClient c))) st
+  keeps r number (lines.Brief lines.TheServer) st = saying r (World.server_brief r.world.host ∷ []) st
+  keeps r number (lines.Others c) st = lift r (World.step r.world number (lines.Others c)) (keeps_of_client s r number c (lines.Others c)) st
+  keeps r number (lines.HistoryOf c) st = lift r (World.step r.world number (lines.HistoryOf c)) (keeps_of_client s r number c (lines.HistoryOf c)) st
+  keeps r number (lines.NoticesOf c) st = lift r (World.step r.world number (lines.NoticesOf c)) (keeps_of_client s r number c (lines.NoticesOf c)) st
+  keeps r number (lines.Goes_up k) st = up r k st
+  keeps r number (lines.Comes_down k) st = lift r (World.step r.world number (lines.Comes_down k)) (λ i. keeps_down s r number k i) st
+  keeps r number (lines.Drain n) st = keeps_drain r number n st
+  keeps r number (lines.Gone k) st = lift r (World.step r.world number (lines.Gone k)) (λ i. keeps_gone s r k i) st
+  keeps r number lines.Stop st = lift r (World.step r.world number lines.Stop) (λ i. keeps_stop s r i) st
+  keeps r number lines.Start st = lift r (World.step r.world number lines.Start) (λ i. keeps_start s r i) st
+  keeps r number (lines.Fuse n how) st = lift r (World.step r.world number (lines.Fuse n how)) (λ i. keeps_fuse s r i (record { left = n; how = how })) st
+  keeps r number lines.Compact st = lift r (World.step r.world number lines.Compact) (λ i. keeps_compact s r i) st
+  keeps r number (lines.Limit updates sessions) st = lift r (World.step r.world number (lines.Limit updates sessions)) (λ i. keeps_limit s r i (record { updates = updates; sessions = sessions })) st
+  keeps r number lines.Link st = lift r (World.step r.world number lines.Link) (λ i. keeps_link s r i) st
+  keeps r number (lines.Raw k text) st = lift r (World.step r.world number (lines.Raw k text)) (λ i. keeps_raw s r i k text) st
+
+  pub keeps_all : (ls : List (ℕ × lines.Line)) (r : Run) → Good s r → Good s (run r ls)
+  keeps_all [] r st = st
+  keeps_all (l ∷ ls) r st = keeps_all ls (line r l.0 l.1) (keeps r l.0 l.1 st)
+
+none_some : {A : Type 0} (x : A) → None ≡ Some x → ⊥
+none_some x e = cc
+
+-- nobody is there yet; the tree's items are read again as it
+pub begins : (s : State) → tree_in (items_of s.tree) ≡ Some s.tree → Invariant.Inv s (opened s)
+begins s spelled = record {
+  shape = record {
+    hosts = record { room = refl; access = refl; free = λ k l e. absurd (none_some l (sym (get_none k) ∙ e)) };
+    present = λ c k e. absurd (none_some k (sym (ap (λ (y : World.Seat). y.present) (new_seat_is c)) ∙ e));
+    heard = λ c k o. absurd (none_some c (sym (ap (λ (q : World.Conn). q.owner) (no_conn_is k)) ∙ o.owner));
+    deaf = λ k e. ap (λ (q : World.Conn). q.down) (no_conn_is k);
+    unlinked = λ k e. get_none k;
+    unopened = λ k e. no_conn_is k;
+    there = λ k l e. absurd (none_some l (sym (get_none k) ∙ e));
+  };
+  logged = record { count = omega arith; tree = refl; more = omega arith; within = tt; lasts = λ a. refl; spelled = spelled };
+  given = λ k a l e f d g. absurd (none_some l (sym (get_none k) ∙ e));
+  actors = λ k a l e f. absurd (none_some l (sym (get_none k) ∙ e));
+  nobody = λ c. refl;
+  client = λ c u. subst (λ (y : World.Seat). Invariant.Client s [] s.sessions [] c y.present (core y.account) [] (Invariant.present_down (World.opening s) y.present) (Invariant.present_link (World.opening s) y.present)) (sym (new_seat_is c)) (record {
+    done = [];
+    coming = [];
+    own = record {
+      room = refl;
+      whole = refl;
+      shows = record { unsynced = λ e. cc; none = refl; nothing = refl };
+      ledger = record { accepted = []; rest = []; all_is = refl; last_is = refl; chain = record {}; took = record { same = refl; clock = refl }; takes = record { same = refl; clock = refl } };
+      unsent = inr refl;
+    };
+    stands = tt;
+    seated = record { idle = refl; bare = refl };
+  });
+  ups = λ c k o u. absurd (none_some c (sym (ap (λ (q : World.Conn). q.owner) (no_conn_is k)) ∙ o));
+}
+  where
+    new_seat_is : (c : ℕ) → seat (World.opening s) c ≡ World.new_seat
+    new_seat_is c = ap seat_in (get_none c)
+
+    no_conn_is : (k : ℕ) → Invariant.conn (World.opening s) k ≡ Invariant.no_conn
+    no_conn_is k = ap Invariant.conn_in (get_none k)
+
+-- so the invariant stands in every run
+pub stands : (s : State) (ls : List (ℕ × lines.Line)) → IsReadable s ls → Invariant.Inv s (run (opened s) ls)
+stands s ls h = keeps_all s ls (opened s) (λ g. begins s (g [] [] refl)) h
+
+pub each_shows : EachShows
+each_shows s ls c t h u e = shows s (run (opened s) ls) c (stands s ls h) u t e
+
+pub each_once : EachOnce
+each_once s ls c h u = kept s (run (opened s) ls) c (stands s ls h) u

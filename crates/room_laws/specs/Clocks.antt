@@ -1,0 +1,36 @@
+-- The clocks of a client's batches.
+use Rattle.std.specs.Prelude.{◌≡◌, ◌<◌, ◌+◌, ℕ, Bool, List, [], ◌∷◌, length, Some, Ok}
+use Rattle.room_json.specs.Value.{Value}
+use Rattle.room_json.specs.declared.tree.Json.{Json}
+use Rattle.room_msg.specs.declared.messages.ServerMsg.{ServerMsg}
+use Rattle.room_model.specs.Edits.{Edit}
+use Rattle.room_model.specs.Account.{Account, Batch, new_account, issued}
+use Rattle.room_model.specs.Calls.{Done, Way, lost, dialled, edit, batch_begin, batch_end, go_back, pause as pauses, resume as resumes, clear as clears, presence, event, flushed, resent}
+use Rattle.room_model.specs.Comes.{Took, comes}
+
+-- the clocks of these batches run on by ones after c, and none is empty
+abbrev pub RunsOn : ℕ → List Batch → Type 0
+RunsOn c [] = Unit {0}
+RunsOn c (b ∷ bs) = record { first : b.first ≡ c + 1; some : 0 < length b.bodies; more : RunsOn (c + length b.bodies) bs }
+
+-- the clocks of an account run on from the last acknowledged one
+abbrev pub ClocksRunOn : Account → Type 0
+ClocksRunOn x = RunsOn x.told (issued x)
+
+-- each call and each message keeps them so
+pub record KeepsClocks : Type 0 where
+  pub new : (room : List ℕ) → ClocksRunOn (new_account room)
+  pub lost : (x : Account) → ClocksRunOn x → ClocksRunOn (lost x)
+  pub dialled : (x : Account) → ClocksRunOn x → ClocksRunOn (dialled x)
+  pub edit : (x : Account) (e : Edit) (out : Done) → ClocksRunOn x → edit x e ≡ Ok out → ClocksRunOn out.account
+  pub batch_begin : (x y : Account) → ClocksRunOn x → batch_begin x ≡ Ok y → ClocksRunOn y
+  pub batch_end : (x : Account) (out : Done) → ClocksRunOn x → batch_end x ≡ Ok out → ClocksRunOn out.account
+  pub go_back : (way : Way) (x : Account) (out : Done) → ClocksRunOn x → go_back way x ≡ Ok (Some out) → ClocksRunOn out.account
+  pub presence : (x y : Account) (patch : List (List ℕ × Value)) (in_history : Bool) → ClocksRunOn x → presence x patch in_history ≡ Ok y → ClocksRunOn y
+  pub event : (x y : Account) (e : Json) → ClocksRunOn x → event x e ≡ Ok y → ClocksRunOn y
+  pub pauses : (x : Account) → ClocksRunOn x → ClocksRunOn (pauses x)
+  pub resumes : (x : Account) → ClocksRunOn x → ClocksRunOn (resumes x)
+  pub clears : (x : Account) → ClocksRunOn x → ClocksRunOn (clears x)
+  pub flushed : (x : Account) → ClocksRunOn x → ClocksRunOn (flushed x)
+  pub resent : (x : Account) → ClocksRunOn x → ClocksRunOn (resent x)
+  pub comes : (x : Account) (m : ServerMsg) (out : Took) → ClocksRunOn x → comes x m ≡ Ok out → ClocksRunOn out.account

@@ -1,0 +1,13 @@
+pub mod Back
+pub mod Bounds
+pub mod Clocks
+pub mod Core
+pub mod Invariant
+pub mod Laws
+pub mod Ledger
+pub mod Lines
+pub mod Open
+pub mod Queues
+pub mod Reports
+pub mod Undo
+pub mod Undoing

@@ -1,0 +1,11 @@
+//! What follows from the rules of a room: laws of every run.
+//!
+//! Over all lists of lines, from any opening state. A client is undisturbed where no connection but its own was ever
+//! given its actor; the laws on clients speak of undisturbed ones.
+#![tactic(auto)]
+
+mod accounts;
+mod runs;
+
+pub use accounts::{history_bounded, keeps_clocks, keeps_open, undoes_alone};
+pub use runs::{each_once, each_reversed, each_served, each_shows, each_taken, report_in_order};

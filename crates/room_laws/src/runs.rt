@@ -1,0 +1,37 @@
+//! Laws of every run.
+ghost use Rattle.room_laws.specs.Laws.{EachOnce, EachServed, EachShows, EachTaken};
+ghost use Rattle.room_laws.specs.Lines.{EachReversed};
+ghost use Rattle.room_laws.specs.Reports.{ReportInOrder};
+
+/// The report of lines after others is theirs, from the world that those left.
+pub fn report_in_order()
+    ensures { ReportInOrder }
+{}
+
+/// A client that shows a tree shows the log: the tree after the first n updates, with its own operations that are not
+/// acknowledged yet on top.
+pub fn each_shows()
+    ensures { EachShows }
+{}
+
+/// Each batch that a client issued is taken into the log once, in order, whole, and settled where it is taken; and what
+/// the client was told is in the log.
+pub fn each_once()
+    ensures { EachOnce }
+{}
+
+/// A client refuses no message that comes down to it.
+pub fn each_taken()
+    ensures { EachTaken }
+{}
+
+/// No frame of a client is answered as a bad one: not by a close for its form, its session, its clocks or its actor.
+pub fn each_served()
+    ensures { EachServed }
+{}
+
+/// A batch that a client begins, ends and later undoes, with no state and no update coming between its beginning and its
+/// end, is taken back by its reversal on the tree that the client showed as it began.
+pub fn each_reversed()
+    ensures { EachReversed }
+{}

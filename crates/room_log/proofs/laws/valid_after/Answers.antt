@@ -1,0 +1,5 @@
+use Rattle.room_log.proofs.ValidStates.{valid_after}
+use Rattle.room_log.proofs.laws.valid_after.Goals as goal
+
+pub returns : goal.returns
+returns c = valid_after

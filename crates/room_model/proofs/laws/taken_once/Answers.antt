@@ -1,5 +1,0 @@
-use Rattle.room_model.proofs.Takings.{taken_once}
-use Rattle.room_model.proofs.laws.taken_once.Goals as goal
-
-pub returns : goal.returns
-returns c = taken_once
