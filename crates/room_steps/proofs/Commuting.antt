@@ -27,7 +27,7 @@ use Rattle.room_steps.proofs.Alike.{Alike, parent_alike, key_alike}
 use Rattle.room_steps.proofs.Covering.{Agrees-append, covered-append, same_name}
 use Rattle.room_steps.proofs.Fields.{key_self, same_fields}
 use Rattle.room_steps.proofs.Touching.{Framed, Kept, CoverSame, cover-append, cover_refl, framed_then, kept_then}
-use Rattle.room_steps.proofs.OrderedSteps.{ordered_step}
+use Rattle.room_steps.proofs.OrderedSteps.{ordered_fold}
 
 -- lists of operations
 
@@ -213,10 +213,6 @@ module _ (t u : Nodes) (o : IsOrderedTree t) (p : IsOrderedTree u) (q : NodeId) 
 
 one_tree : (t u : Nodes) → IsOrderedTree t → IsOrderedTree u → ((q : NodeId) → Alike (get t q) (get u q)) → ((q : NodeId) (k : List ℕ) → SameSlot t u q k) → t ≡ u
 one_tree t u o p nodes slots = same_map node_cmp-total node_cmp-exact t u (λ q. one_node t u o p q (slots q) (nodes q))
-
-pub ordered_fold : (t : Nodes) (bs : List Body) → IsOrderedTree t → AreOrderedBodies bs → IsOrderedTree (fold t bs)
-ordered_fold t [] o h = o
-ordered_fold t (b ∷ bs) o h = ordered_fold (step t b) bs (ordered_step t b o h.0) h.1
 
 module _ (t : Nodes) (bs cs : List Body) (f : IsFormed t) (o : IsOrderedTree t) (hb : AreOrderedBodies bs) (hc : AreOrderedBodies cs) (apart : IsApart t bs cs) where
   abbrev tb : Nodes

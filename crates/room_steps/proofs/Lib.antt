@@ -8,6 +8,7 @@ pub mod Creations
 pub mod Cutting
 pub mod Fields
 pub mod Framing
+pub mod Keeping
 pub mod Kin
 pub mod Operations
 pub mod OrderedSteps

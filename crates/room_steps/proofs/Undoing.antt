@@ -34,12 +34,12 @@ use Rattle.room_nodes.specs.Reversal.{child_restored, creation, creations, displ
 use Rattle.room_steps.proofs.Booleans.{or_right}
 use Rattle.room_steps.proofs.Agreement.{create_both, create_out, local, void_same}
 use Rattle.room_steps.proofs.Alike.{by_alike, holds_list_same, key_alike}
-use Rattle.room_steps.proofs.Commuting.{agrees_kept, agrees_off, either_order, framed_fold, one_node, ordered_fold}
+use Rattle.room_steps.proofs.Commuting.{agrees_kept, agrees_off, either_order, framed_fold, one_node}
 use Rattle.room_steps.proofs.Covering.{Agrees-append, is_hit, hit_is, hit_of}
 use Rattle.room_steps.proofs.Creations.{cells_is, out_by, out_is, out_of}
 use Rattle.room_steps.proofs.Kin.{same_children}
 use Rattle.room_steps.proofs.Operations.{writes_by}
-use Rattle.room_steps.proofs.OrderedSteps.{ordered_step}
+use Rattle.room_steps.proofs.OrderedSteps.{ordered_fold, ordered_step}
 use Rattle.room_steps.proofs.Regions.{node_agrees, slot_agrees}
 use Rattle.room_steps.proofs.Restoring.{order, under}
 use Rattle.room_steps.proofs.Reversing.{reversible}
