@@ -17,6 +17,7 @@ pub mod Restoring
 pub mod Reversing
 pub mod Settled
 pub mod Shallow
+pub mod Sound
 pub mod Touching
 pub mod Undoing
 pub mod Updating

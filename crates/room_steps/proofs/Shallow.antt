@@ -1,5 +1,5 @@
 -- No step makes a tree's values deeper than those of the operation and of the tree.
-use Rattle.std.proofs.Common.{◌≡◌, ℕ, Bool, true, List, [], ◌∷◌, nat_le, refl}
+use Rattle.std.proofs.Common.{◌≡◌, ℕ, true, List, [], ◌∷◌, nat_le, refl}
 use Rattle.room_json.specs.Value.{Value, depth}
 use Rattle.room_ids.specs.declared.ids.NodeId.{NodeId}
 use Rattle.room_nodes.specs.declared.nodes.Node.{Node}

@@ -1,5 +1,5 @@
 -- Laws of steps and folds: what operations touch, and what takes them back.
-use Rattle.std.specs.Prelude.{◌≡◌, Bool, false, true, List}
+use Rattle.std.specs.Prelude.{◌≡◌, false, true, List}
 use Rattle.room_nodes.specs.declared.nodes.Body.{Body}
 use Rattle.room_nodes.specs.declared.cells.Cell.{Cell}
 use Rattle.room_nodes.specs.Cells.{Agrees, AgreesOn, IsApart, cells_all, overlaps_some, writes_all}
