@@ -25,7 +25,7 @@ use Rattle.room_steps.proofs.Booleans.{or_left, none_of_both}
 use Rattle.room_steps.proofs.Alike.{Alike, alike_some, has_room_same, holds_list_same, holds_object_same, parent_same, some_same, under_same}
 use Rattle.room_steps.proofs.Covering.{Agrees-append}
 use Rattle.room_steps.proofs.Creations.{out_by, out_of, placed_same, framed_create, local_in_list, local_at_key}
-use Rattle.room_steps.proofs.Touching.{Framed, Kept, cover_more, cover_refl}
+use Rattle.room_steps.proofs.Touching.{Framed, Kept}
 use Rattle.room_steps.proofs.Framing.{node_put, slot_put}
 use Rattle.room_steps.proofs.Kin.{same_child, same_children}
 use Rattle.room_steps.proofs.Operations.{IsFramed, IsLocal, framed_void, framed_live, local_void, local_live, framed_delete, framed_delete_key, framed_update, local_delete, local_delete_key, local_update, writes_by}
@@ -115,7 +115,7 @@ module _ (t u : Nodes) (f : IsFormed t) (g : IsFormed u) (x : NodeId) (k : List 
         node = node_put t u f g x _ _ one a b fields;
         slot = slot_put t u f g x _ _ one a b fields;
       })))
-      (cover_more (All (up t x)) (All (up u x)) _ _ (ap All ups) (cover_refl (NodeOf x ∷ [])))
+      (ap (λ p. All p ∷ NodeOf x ∷ []) ups)
 
 -- whether an operation is void is read of its cells
 
@@ -129,20 +129,20 @@ create_same a r false q a2 r2 l2 q2 p s h k = rw (p, s, sym h) refl
 
 module _ (t u : Nodes) (f : IsFormed t) (g : IsFormed u) where
   -- what is read of x, and of its parent where it is there
-  record AgreesAbove (x : NodeId) : Type 0 where
-    node : Alike (get t x) (get u x)
-    above : is_some (get t x) ≡ true → Alike (get t (up t x)) (get u (up t x))
+  pub record AgreesAbove (x : NodeId) : Type 0 where
+    pub node : Alike (get t x) (get u x)
+    pub above : is_some (get t x) ≡ true → Alike (get t (up t x)) (get u (up t x))
 
-  delete_by : (x : NodeId) (o : Option Node) → get t x ≡ o → Agrees t u (delete_reads x o) → AgreesAbove x
+  pub delete_by : (x : NodeId) (o : Option Node) → get t x ≡ o → Agrees t u (delete_reads x o) → AgreesAbove x
   delete_by x None e h = record { node = h.0; above = λ s. absurd (true_false (sym s ∙ ap is_some e)) }
   delete_by x (Some n) e h = record { node = h.0; above = λ s. subst (λ p. Alike (get t p) (get u p)) (sym (ap parent_of e)) h.1.0 }
 
-  record AgreesBeside (x : NodeId) : Type 0 where
-    node : Alike (get t x) (get u x)
-    above : is_some (get t x) ≡ true → Alike (get t (up t x)) (get u (up t x))
-    slots : is_some (get t x) ≡ true → holds_list (get t (up t x)) ≡ true → (j : List ℕ) → SameSlot t u (up t x) j
+  pub record AgreesBeside (x : NodeId) : Type 0 where
+    pub node : Alike (get t x) (get u x)
+    pub above : is_some (get t x) ≡ true → Alike (get t (up t x)) (get u (up t x))
+    pub slots : is_some (get t x) ≡ true → holds_list (get t (up t x)) ≡ true → (j : List ℕ) → SameSlot t u (up t x) j
 
-  set_key_by : (x : NodeId) (o : Option Node) → get t x ≡ o → Agrees t u (set_key_reads t x o) → AgreesBeside x
+  pub set_key_by : (x : NodeId) (o : Option Node) → get t x ≡ o → Agrees t u (set_key_reads t x o) → AgreesBeside x
   set_key_by x None e h = record { node = h.0; above = λ s. absurd (true_false (sym s ∙ ap is_some e)); slots = λ s. absurd (true_false (sym s ∙ ap is_some e)) }
   set_key_by x (Some n) e h =
       let is : up t x ≡ n.parent = ap parent_of e in

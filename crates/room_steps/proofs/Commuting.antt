@@ -26,7 +26,7 @@ use Rattle.room_steps.proofs.Agreement.{framed, local}
 use Rattle.room_steps.proofs.Alike.{Alike, parent_alike, key_alike}
 use Rattle.room_steps.proofs.Covering.{Agrees-append, covered-append, same_name}
 use Rattle.room_steps.proofs.Fields.{key_self, same_fields}
-use Rattle.room_steps.proofs.Touching.{Framed, Kept, CoverSame, cover-append, cover_refl, framed_then, kept_then}
+use Rattle.room_steps.proofs.Touching.{Framed, Kept, framed_then, kept_then}
 use Rattle.room_steps.proofs.OrderedSteps.{ordered_fold}
 
 -- lists of operations
@@ -55,14 +55,21 @@ agrees_kept t u t2 u2 k (NodeOf x ∷ ds) h = (k.node x h.0, agrees_kept t u t2 
 agrees_kept t u t2 u2 k (Slot x j ∷ ds) h = (k.slot x j h.0, agrees_kept t u t2 u2 k ds h.1)
 agrees_kept t u t2 u2 k (All x ∷ ds) h = (λ j. k.slot x j (h.0 j), agrees_kept t u t2 u2 k ds h.1)
 
-pub kept_fold : (t u : Nodes) → IsFormed t → IsFormed u → (bs : List Body) → Agrees t u (cells_all t bs) → Kept t u (fold t bs) (fold u bs) × CoverSame (writes_all t bs) (writes_all u bs)
-kept_fold t u f g [] h = (record { node = λ q e. e; slot = λ q k e. e }, cover_refl [])
+-- the cells of the first operation, and of the others behind it
+module _ (t u : Nodes) (f : IsFormed t) (g : IsFormed u) (b : Body) (bs : List Body) (h : Agrees t u (cells_all t (b ∷ bs))) where
+  pub agrees_first : Agrees t u (reads t b ++ writes t b)
+  agrees_first = (Agrees-append t u (reads t b ++ writes t b) (cells_all (step t b) bs) h).0
+
+  pub agrees_rest : Agrees (step t b) (step u b) (cells_all (step t b) bs)
+  agrees_rest = agrees_kept t u (step t b) (step u b) (local t u f g b agrees_first).kept (cells_all (step t b) bs) (Agrees-append t u (reads t b ++ writes t b) (cells_all (step t b) bs) h).1
+
+pub kept_fold : (t u : Nodes) → IsFormed t → IsFormed u → (bs : List Body) → Agrees t u (cells_all t bs) → Kept t u (fold t bs) (fold u bs) × (writes_all t bs ≡ writes_all u bs)
+kept_fold t u f g [] h = (record { node = λ q e. e; slot = λ q k e. e }, refl)
 kept_fold t u f g (b ∷ bs) h =
-    let a = Agrees-append t u (reads t b ++ writes t b) (cells_all (step t b) bs) h in
-    let l = local t u f g b a.0 in
-    let r = kept_fold (step t b) (step u b) (formed-step t f b) (formed-step u g b) bs (agrees_kept t u (step t b) (step u b) l.kept (cells_all (step t b) bs) a.1) in (
+    let l = local t u f g b (agrees_first t u f g b bs h) in
+    let r = kept_fold (step t b) (step u b) (formed-step t f b) (formed-step u g b) bs (agrees_rest t u f g b bs h) in (
       kept_then t u (step t b) (step u b) (fold (step t b) bs) (fold (step u b) bs) l.kept r.0,
-      cover-append (writes t b) (writes u b) (writes_all (step t b) bs) (writes_all (step u b) bs) l.cells r.1,
+      ap (λ ds. ds ++ writes_all (step t b) bs) l.cells ∙ ap (λ ds. writes u b ++ ds) r.1,
     )
 
 pub alike_fold : (t u : Nodes) → IsFormed t → IsFormed u → (bs : List Body) → Agrees t u (cells_all t bs) → Agrees (fold t bs) (fold u bs) (cells_all t bs)
@@ -227,18 +234,18 @@ module _ (t : Nodes) (bs cs : List Body) (f : IsFormed t) (o : IsOrderedTree t) 
   off_b : meets (writes_all t cs) (cells_all t bs) ≡ false
   off_b = not_true _ (both (not (meets (writes_all t bs) (cells_all t cs))) _ apart).1
 
-  after_b : Kept t tb tc (fold tb cs) × CoverSame (writes_all t cs) (writes_all tb cs)
+  after_b : Kept t tb tc (fold tb cs) × (writes_all t cs ≡ writes_all tb cs)
   after_b = kept_fold t tb f (formed-fold t f bs) cs (agrees_off t tb (writes_all t bs) (framed_fold t f bs) (cells_all t cs) off_c)
 
-  after_c : Kept t tc tb (fold tc bs) × CoverSame (writes_all t bs) (writes_all tc bs)
+  after_c : Kept t tc tb (fold tc bs) × (writes_all t bs ≡ writes_all tc bs)
   after_c = kept_fold t tc f (formed-fold t f cs) bs (agrees_off t tc (writes_all t cs) (framed_fold t f cs) (cells_all t bs) off_b)
 
   node_either : (q : NodeId) (b : Bool) → overlaps_some (NodeOf q) (writes_all t bs) ≡ b → Alike (get (fold tb cs) q) (get (fold tc bs) q)
   node_either q false e =
-      sym (after_b.0.node q ((framed_fold t f bs).node q e)) ∙ (framed_fold tc (formed-fold t f cs) bs).node q (sym (after_c.1.node q) ∙ e)
+      sym (after_b.0.node q ((framed_fold t f bs).node q e)) ∙ (framed_fold tc (formed-fold t f cs) bs).node q (ap (overlaps_some (NodeOf q)) (sym after_c.1) ∙ e)
   node_either q true e =
       let off = apart_off (NodeOf q) (node_meets q) t (writes_all t bs) cs off_c e in
-      sym ((framed_fold tb (formed-fold t f bs) cs).node q (sym (after_b.1.node q) ∙ off)) ∙ after_c.0.node q ((framed_fold t f cs).node q off)
+      sym ((framed_fold tb (formed-fold t f bs) cs).node q (ap (overlaps_some (NodeOf q)) (sym after_b.1) ∙ off)) ∙ after_c.0.node q ((framed_fold t f cs).node q off)
 
   slot_sym : (t u : Nodes) (q : NodeId) (k : List ℕ) → SameSlot t u q k → SameSlot u t q k
   slot_sym t u q k s = (sym s.0, sym s.1)
@@ -249,11 +256,11 @@ module _ (t : Nodes) (bs cs : List Body) (f : IsFormed t) (o : IsOrderedTree t) 
   slot_either : (q : NodeId) (k : List ℕ) (b : Bool) → overlaps_some (Slot q k) (writes_all t bs) ≡ b → SameSlot (fold tb cs) (fold tc bs) q k
   slot_either q k false e = slot_trans (fold tb cs) tc (fold tc bs) q k
       (slot_sym tc (fold tb cs) q k (after_b.0.slot q k ((framed_fold t f bs).slot q k e)))
-      ((framed_fold tc (formed-fold t f cs) bs).slot q k (sym (after_c.1.slot q k) ∙ e))
+      ((framed_fold tc (formed-fold t f cs) bs).slot q k (ap (overlaps_some (Slot q k)) (sym after_c.1) ∙ e))
   slot_either q k true e =
       let off = apart_off (Slot q k) (slot_meets q k) t (writes_all t bs) cs off_c e in
       slot_trans (fold tb cs) tb (fold tc bs) q k
-      (slot_sym tb (fold tb cs) q k ((framed_fold tb (formed-fold t f bs) cs).slot q k (sym (after_b.1.slot q k) ∙ off)))
+      (slot_sym tb (fold tb cs) q k ((framed_fold tb (formed-fold t f bs) cs).slot q k (ap (overlaps_some (Slot q k)) (sym after_b.1) ∙ off)))
       (after_c.0.slot q k ((framed_fold t f cs).slot q k off))
 
   pub either_order : fold (fold t bs) cs ≡ fold (fold t cs) bs

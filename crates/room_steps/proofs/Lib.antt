@@ -15,6 +15,7 @@ pub mod OrderedSteps
 pub mod Regions
 pub mod Restoring
 pub mod Reversing
+pub mod SameCells
 pub mod Settled
 pub mod Shallow
 pub mod Sound

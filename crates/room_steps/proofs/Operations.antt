@@ -27,7 +27,7 @@ use Rattle.room_steps.proofs.Alike.{Alike, parent_same, key_same, holds_list_sam
 use Rattle.room_steps.proofs.Changing.{Acts, IsByName, node_kept, slot_kept}
 use Rattle.room_steps.proofs.Covering.{covered-append}
 use Rattle.room_steps.proofs.Fields.{Named, beside_without, find_without, with_beside}
-use Rattle.room_steps.proofs.Touching.{Framed, Kept, CoverSame, IsOut, child_out, covered_out, covered_slot, covered_slots, cover_more, cover_out, cover_refl, cover_slot, cover_slots, gone_at_out, gone_same, gones_same, left_at, own_slot}
+use Rattle.room_steps.proofs.Touching.{Framed, Kept, IsOut, child_out, covered_out, covered_slot, covered_slots, gone_at_out, gone_same, gones_same, left_at, own_slot, removals_same, slot_cells_same, slots_cells_same}
 use Rattle.room_steps.proofs.Framing.{AreKept, Covered, node_framed, slot_framed, gone_of, gone_at, plain, acts_plain, acts_then, acts_without}
 use Rattle.room_steps.proofs.Restoring.{step_acts, step_void}
 
@@ -35,7 +35,7 @@ use Rattle.room_steps.proofs.Restoring.{step_acts, step_void}
 
 pub record IsLocal (t u : Nodes) (b : Body) : Type 0 where
   pub kept : Kept t u (step t b) (step u b)
-  pub cells : CoverSame (writes t b) (writes u b)
+  pub cells : writes t b ≡ writes u b
 
 abbrev pub IsFramed : Nodes → Body → Type 0
 IsFramed t b = Framed t (step t b) (writes t b)
@@ -52,13 +52,13 @@ framed_live t b e h = subst (λ (v : Nodes). Framed t v (writes t b)) (sym (step
 pub local_void : (t u : Nodes) (b : Body) → is_void t b ≡ true → is_void u b ≡ true → IsLocal t u b
 local_void t u b e d = record {
   kept = subst (λ (v : Nodes). Kept t u v (step u b)) (sym (step_void t b e)) (subst (Kept t u t) (sym (step_void u b d)) (record { node = λ q h. h; slot = λ q k h. h }));
-  cells = subst (λ ds. CoverSame ds (writes u b)) (sym (writes_by t b true e)) (subst (CoverSame []) (sym (writes_by u b true d)) (cover_refl []));
+  cells = writes_by t b true e ∙ sym (writes_by u b true d);
 }
 
-pub local_live : (t u : Nodes) (b : Body) → is_void t b ≡ false → is_void u b ≡ false → Kept t u (effect t (settled_body t b)) (effect u (settled_body u b)) → CoverSame (effect_cells t b) (effect_cells u b) → IsLocal t u b
+pub local_live : (t u : Nodes) (b : Body) → is_void t b ≡ false → is_void u b ≡ false → Kept t u (effect t (settled_body t b)) (effect u (settled_body u b)) → effect_cells t b ≡ effect_cells u b → IsLocal t u b
 local_live t u b e d h c = record {
   kept = subst (λ (v : Nodes). Kept t u v (step u b)) (sym (step_acts t b e)) (subst (Kept t u (effect t (settled_body t b))) (sym (step_acts u b d)) h);
-  cells = subst (λ ds. CoverSame ds (writes u b)) (sym (writes_by t b false e)) (subst (CoverSame (effect_cells t b)) (sym (writes_by u b false d)) c);
+  cells = writes_by t b false e ∙ c ∙ sym (writes_by u b false d);
 }
 
 -- changes of fields, name by name
@@ -138,7 +138,7 @@ pub local_delete_key : (t u : Nodes) → IsFormed t → IsFormed u → (x : Node
 local_delete_key t u f g x k e d alike agree =
     let n = object_there (get t x) (not_false _ e) in
     let m = object_there (get u x) (not_false _ d) in
-    local_live t u (DeleteKey x k) e d (emptied_kept t u f g x k n.0 m.0 n.1 m.1 alike agree) (cover_slot t u f g x k agree)
+    local_live t u (DeleteKey x k) e d (emptied_kept t u f g x k n.0 m.0 n.1 m.1 alike agree) (slot_cells_same t u f g x k agree)
 
 -- update
 
@@ -179,7 +179,7 @@ local_update t u f g x fs e d alike agree =
     local_live t u (Update x fs) e d (record {
       node = node_kept t u _ _ (gone_at t x fs) (gone_at u x fs) x (with_fields fs) a b same f g h k (by_name_with fs) (holds_object_same _ _ alike);
       slot = slot_kept t u _ _ (gone_at t x fs) (gone_at u x fs) x (with_fields fs) a b same f g h k (by_name_with fs) (holds_object_same _ _ alike);
-    }) (cover_slots t u f g x fs agree)
+    }) (slots_cells_same t u f g x fs agree)
 
 -- delete
 
@@ -224,4 +224,7 @@ local_delete t u f g x e d alike above agree =
     local_live t u (Delete x) e d (record {
       node = node_kept t u (removed t x) (removed u x) (gone_of t (Some x)) (gone_of u (Some x)) x plain (acts_without t x (Some x)) (acts_without u x (Some x)) same f g (formed-removed t x f n.2) (formed-removed u x g m.2) by_name_plain (holds_object_same _ _ alike);
       slot = slot_kept t u (removed t x) (removed u x) (gone_of t (Some x)) (gone_of u (Some x)) x plain (acts_without t x (Some x)) (acts_without u x (Some x)) same f g (formed-removed t x f n.2) (formed-removed u x g m.2) by_name_plain (holds_object_same _ _ alike);
-    }) (cover_more _ _ (removal_cells t x) (removal_cells u x) (cell_same _ _ _ _ _ _ lists ups (key_same _ _ alike)) (cover_out t u f g (Some x) out agree))
+    }) (ap (λ c. c ∷ removal_cells t x) (cell_same _ _ _ _ _ _ lists ups (key_same _ _ alike)) ∙ ap (λ ds. place u ∷ ds) (removals_same t u f g (Some x) (Some x) refl out agree))
+  where
+    place : Nodes → Cell
+    place v = cond (holds_list (get v (up v x))) (All (up v x)) (Slot (up v x) (key_in (get v x)))

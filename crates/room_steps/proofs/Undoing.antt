@@ -32,9 +32,9 @@ use Rattle.room_steps.specs.Laws.{UndoRestores}
 use Rattle.room_nodes.specs.Ordered.{AreOrderedBodies, IsOrderedTree}
 use Rattle.room_nodes.specs.Reversal.{child_restored, creation, creations, displaced, field_in, field_of_node, gone_or, key_restored, node_restored, old_field, old_fields, old_update, other_name, other_names, replaced_restored, reverse, reverse_all, reversed, slot_or, slot_restored}
 use Rattle.room_steps.proofs.Booleans.{or_right}
-use Rattle.room_steps.proofs.Agreement.{create_both, create_out, local, void_same}
+use Rattle.room_steps.proofs.Agreement.{create_both, create_out, void_same}
 use Rattle.room_steps.proofs.Alike.{by_alike, holds_list_same, key_alike}
-use Rattle.room_steps.proofs.Commuting.{agrees_kept, agrees_off, either_order, framed_fold, one_node}
+use Rattle.room_steps.proofs.Commuting.{agrees_first, agrees_off, agrees_rest, either_order, framed_fold, one_node}
 use Rattle.room_steps.proofs.Covering.{Agrees-append, is_hit, hit_is, hit_of}
 use Rattle.room_steps.proofs.Creations.{cells_is, out_by, out_is, out_of}
 use Rattle.room_steps.proofs.Kin.{same_children}
@@ -178,10 +178,8 @@ module _ (t u : Nodes) (f : IsFormed t) (g : IsFormed u) (o : IsOrderedTree t) (
 pub reversals_same : (t u : Nodes) → IsFormed t → IsFormed u → IsOrderedTree t → IsOrderedTree u → (bs : List Body) → AreOrderedBodies bs → Agrees t u (cells_all t bs) → reverse_all t bs ≡ reverse_all u bs
 reversals_same t u f g o p [] hb h = refl
 reversals_same t u f g o p (b ∷ bs) hb h =
-    let a = Agrees-append t u (reads t b ++ writes t b) (cells_all (step t b) bs) h in
-    let l = local t u f g b a.0 in
-    ap (λ cs. cs ++ reverse t b) (reversals_same (step t b) (step u b) (formed-step t f b) (formed-step u g b) (ordered_step t b o hb.0) (ordered_step u b p hb.0) bs hb.1 (agrees_kept t u (step t b) (step u b) l.kept (cells_all (step t b) bs) a.1))
-    ∙ ap (λ cs. reverse_all (step u b) bs ++ cs) (reverse_same t u f g o p b a.0)
+    ap (λ cs. cs ++ reverse t b) (reversals_same (step t b) (step u b) (formed-step t f b) (formed-step u g b) (ordered_step t b o hb.0) (ordered_step u b p hb.0) bs hb.1 (agrees_rest t u f g b bs h))
+    ∙ ap (λ cs. reverse_all (step u b) bs ++ cs) (reverse_same t u f g o p b (agrees_first t u f g b bs h))
 
 pub undo_restores : UndoRestores
 undo_restores s t bs zs fs ft os ot hb hz agree apart =
