@@ -23,10 +23,11 @@ use Rattle.room_nodes.proofs.StepForm.{at_node}
 use Rattle.room_nodes.proofs.Steps.{neither, not_false, can_set_key, formed-step}
 use Rattle.room_steps.proofs.Booleans.{or_left, none_of_both}
 use Rattle.room_steps.proofs.Alike.{Alike, alike_some, has_room_same, holds_list_same, holds_object_same, parent_same, some_same, under_same}
+use Rattle.room_steps.proofs.Changing.{Kept}
 use Rattle.room_steps.proofs.Covering.{Agrees-append}
 use Rattle.room_steps.proofs.Creations.{out_by, out_of, placed_same, framed_create, local_in_list, local_at_key}
-use Rattle.room_steps.proofs.Touching.{Framed, Kept}
-use Rattle.room_steps.proofs.Framing.{node_put, slot_put}
+use Rattle.room_steps.proofs.Touching.{Framed}
+use Rattle.room_steps.proofs.Framing.{kept_put}
 use Rattle.room_steps.proofs.Kin.{same_child, same_children}
 use Rattle.room_steps.proofs.Operations.{IsFramed, IsLocal, framed_void, framed_live, local_void, local_live, framed_delete, framed_delete_key, framed_update, local_delete, local_delete_key, local_update, writes_by}
 use Rattle.room_steps.proofs.Restoring.{step_acts}
@@ -111,10 +112,8 @@ module _ (t u : Nodes) (f : IsFormed t) (g : IsFormed u) (x : NodeId) (k : List 
       let fields : (j : List ℕ) → SameSlot t u x j → find (slice_cmp nat_cmp) j (kind_fields n.0.kind) ≡ find (slice_cmp nat_cmp) j (kind_fields m.0.kind) =
       λ j s. sym (ap (λ o. find (slice_cmp nat_cmp) j (fields_in o)) n.1) ∙ s.0 ∙ ap (λ o. find (slice_cmp nat_cmp) j (fields_in o)) m.1 in
       local_live t u (SetKey x k) e d
-      (subst (λ (v : Nodes). Kept t u v (effect u (settled_body u (SetKey x k)))) (sym (moved_is t f x k e n.0 n.1)) (subst (Kept t u (moved t f x k e n.0 n.1)) (sym (moved_is u g x k d m.0 m.1)) (record {
-        node = node_put t u f g x _ _ one a b fields;
-        slot = slot_put t u f g x _ _ one a b fields;
-      })))
+      (subst (λ (v : Nodes). Kept t u v (effect u (settled_body u (SetKey x k)))) (sym (moved_is t f x k e n.0 n.1)) (subst (Kept t u (moved t f x k e n.0 n.1)) (sym (moved_is u g x k d m.0 m.1))
+      (kept_put t u f g x _ _ one a b fields (λ h. h x n.0 m.0 n.1 m.1))))
       (ap (λ p. All p ∷ NodeOf x ∷ []) ups)
 
 -- whether an operation is void is read of its cells

@@ -24,9 +24,10 @@ use Rattle.room_nodes.specs.Ordered.{AreOrderedBodies, IsOrderedKind, IsOrderedT
 use Rattle.room_steps.proofs.Booleans.{by_no, or_parts, or_left, or_right, none_of_both, and_parts, and_both, and_false}
 use Rattle.room_steps.proofs.Agreement.{framed, local}
 use Rattle.room_steps.proofs.Alike.{Alike, parent_alike, key_alike}
+use Rattle.room_steps.proofs.Changing.{AreMatched, Kept}
 use Rattle.room_steps.proofs.Covering.{Agrees-append, covered-append, same_name}
 use Rattle.room_steps.proofs.Fields.{key_self, same_fields}
-use Rattle.room_steps.proofs.Touching.{Framed, Kept, framed_then, kept_then}
+use Rattle.room_steps.proofs.Touching.{Framed, framed_then, kept_then}
 use Rattle.room_steps.proofs.OrderedSteps.{ordered_fold}
 
 -- lists of operations
@@ -64,7 +65,7 @@ module _ (t u : Nodes) (f : IsFormed t) (g : IsFormed u) (b : Body) (bs : List B
   agrees_rest = agrees_kept t u (step t b) (step u b) (local t u f g b agrees_first).kept (cells_all (step t b) bs) (Agrees-append t u (reads t b ++ writes t b) (cells_all (step t b) bs) h).1
 
 pub kept_fold : (t u : Nodes) → IsFormed t → IsFormed u → (bs : List Body) → Agrees t u (cells_all t bs) → Kept t u (fold t bs) (fold u bs) × (writes_all t bs ≡ writes_all u bs)
-kept_fold t u f g [] h = (record { node = λ q e. e; slot = λ q k e. e }, refl)
+kept_fold t u f g [] h = (record { node = λ q e. e; slot = λ q k e. e; matched = λ e. e }, refl)
 kept_fold t u f g (b ∷ bs) h =
     let l = local t u f g b (agrees_first t u f g b bs h) in
     let r = kept_fold (step t b) (step u b) (formed-step t f b) (formed-step u g b) bs (agrees_rest t u f g b bs h) in (
@@ -199,13 +200,13 @@ kinds_one (Register w) Listed e o p h = cc
 kinds_one (Register w) Mapped e o p h = cc
 kinds_one (Register w) (Register v) e o p h = e
 
-module _ (t u : Nodes) (o : IsOrderedTree t) (p : IsOrderedTree u) (q : NodeId) (slots : (k : List ℕ) → SameSlot t u q k) where
+module _ (t u : Nodes) (matched : AreMatched t u) (q : NodeId) (slots : (k : List ℕ) → SameSlot t u q k) where
   found_same : (m n : Node) → get t q ≡ Some m → get u q ≡ Some n → (k : List ℕ) → find (slice_cmp nat_cmp) k (kind_fields m.kind) ≡ find (slice_cmp nat_cmp) k (kind_fields n.kind)
   found_same m n a b k = sym (ap (λ z. find (slice_cmp nat_cmp) k (fields_in z)) a) ∙ (slots k).0 ∙ ap (λ z. find (slice_cmp nat_cmp) k (fields_in z)) b
 
   nodes_one : (m n : Node) → get t q ≡ Some m → get u q ≡ Some n → bare m ≡ bare n → m ≡ n
   nodes_one m n a b e =
-      let kind = kinds_one m.kind n.kind (ap (λ (v : Node). v.kind) e) (o q m a) (p q n b) (found_same m n a b) in
+      let kind : m.kind ≡ n.kind = elim (matched q m n a b) [ inl o ↦ kinds_one m.kind n.kind (ap (λ (v : Node). v.kind) e) o.0 o.1 (found_same m n a b) | inr is ↦ is ] in
       λ i. record { parent = parent_alike m n e i; key = key_alike m n e i; depth = (e i).depth; kind = kind i }
 
   at_one : (a b : Option Node) → get t q ≡ a → get u q ≡ b → Alike a b → a ≡ b
@@ -218,8 +219,11 @@ module _ (t u : Nodes) (o : IsOrderedTree t) (p : IsOrderedTree u) (q : NodeId) 
   pub one_node : Alike (get t q) (get u q) → get t q ≡ get u q
   one_node e = at_one (get t q) (get u q) refl refl e
 
-one_tree : (t u : Nodes) → IsOrderedTree t → IsOrderedTree u → ((q : NodeId) → Alike (get t q) (get u q)) → ((q : NodeId) (k : List ℕ) → SameSlot t u q k) → t ≡ u
-one_tree t u o p nodes slots = same_map node_cmp-total node_cmp-exact t u (λ q. one_node t u o p q (slots q) (nodes q))
+pub ordered_matched : (t u : Nodes) → IsOrderedTree t → IsOrderedTree u → AreMatched t u
+ordered_matched t u o p q m n a b = inl (o q m a, p q n b)
+
+one_tree : (t u : Nodes) → AreMatched t u → ((q : NodeId) → Alike (get t q) (get u q)) → ((q : NodeId) (k : List ℕ) → SameSlot t u q k) → t ≡ u
+one_tree t u matched nodes slots = same_map node_cmp-total node_cmp-exact t u (λ q. one_node t u matched q (slots q) (nodes q))
 
 module _ (t : Nodes) (bs cs : List Body) (f : IsFormed t) (o : IsOrderedTree t) (hb : AreOrderedBodies bs) (hc : AreOrderedBodies cs) (apart : IsApart t bs cs) where
   abbrev tb : Nodes
@@ -264,7 +268,7 @@ module _ (t : Nodes) (bs cs : List Body) (f : IsFormed t) (o : IsOrderedTree t) 
       (after_c.0.slot q k ((framed_fold t f cs).slot q k off))
 
   pub either_order : fold (fold t bs) cs ≡ fold (fold t cs) bs
-  either_order = one_tree (fold tb cs) (fold tc bs) (ordered_fold tb cs (ordered_fold t bs o hb) hc) (ordered_fold tc bs (ordered_fold t cs o hc) hb)
+  either_order = one_tree (fold tb cs) (fold tc bs) (ordered_matched (fold tb cs) (fold tc bs) (ordered_fold tb cs (ordered_fold t bs o hb) hc) (ordered_fold tc bs (ordered_fold t cs o hc) hb))
       (λ q. node_either q _ refl) (λ q k. slot_either q k _ refl)
 
 -- the three laws

@@ -1,5 +1,5 @@
 -- The create of a node: what stays outside its written cells, and what it keeps of what two trees agree on.
-use Rattle.std.proofs.Common.{◌≡◌, ◌≢◌, ◌+◌, ℕ, Bool, true, false, cond, not, ◌&&◌, ◌||◌, nat_le, List, [], ◌∷◌, length, Option, Some, None, option_map, is_some, refl, sym, ap, ◌∙◌, subst}
+use Rattle.std.proofs.Common.{◌≡◌, ◌≢◌, inr, ◌+◌, ℕ, Bool, true, false, cond, not, ◌&&◌, ◌||◌, nat_le, List, [], ◌∷◌, length, Option, Some, None, option_map, is_some, refl, sym, ap, ◌∙◌, subst}
 use Rattle.std.specs.Cmp.Lexicographic.{slice_cmp}
 use Rattle.std.specs.FinMap.{get, insert, find}
 use Rattle.std.specs.Ordering.{nat_cmp}
@@ -24,10 +24,10 @@ use Rattle.room_nodes.proofs.StepForm.{formed-cleared, free-create, effect-creat
 use Rattle.room_nodes.proofs.Steps.{neither, not_false, room_there, second, list_or_not, pruned, free-create_in_list, effect-create_in_list}
 use Rattle.room_steps.proofs.Booleans.{by_no, or_left, or_right}
 use Rattle.room_steps.proofs.Alike.{Alike, depth_same, holds_list_same, holds_object_same}
-use Rattle.room_steps.proofs.Changing.{Acts, node_kept, slot_kept}
+use Rattle.room_steps.proofs.Changing.{Acts, Kept, kept_changed}
 use Rattle.room_steps.proofs.Cutting.{siblings_apart}
-use Rattle.room_steps.proofs.Touching.{Framed, Kept, IsOut, framed_then, kept_then, covered_out, gone_at_out, own_slot, removals_same, slot_cells_same}
-use Rattle.room_steps.proofs.Framing.{Covered, node_framed, slot_framed, node_beside, slot_beside, node_put, slot_put, gone_of, plain, acts_without}
+use Rattle.room_steps.proofs.Touching.{Framed, IsOut, framed_then, kept_then, covered_out, gone_at_out, own_slot, removals_same, slot_cells_same}
+use Rattle.room_steps.proofs.Framing.{Covered, node_framed, slot_framed, node_beside, slot_beside, kept_put, gone_of, plain, acts_without}
 use Rattle.room_steps.proofs.Kin.{IsChild, carried, same_child, same_children}
 use Rattle.room_steps.proofs.Operations.{IsFramed, IsLocal, framed_live, local_live, emptied, emptied_framed, emptied_kept, by_name_plain}
 
@@ -253,10 +253,7 @@ module _ (t u : Nodes) (f : IsFormed t) (g : IsFormed u) (x p : NodeId) (k : Lis
       let one : m ≡ n = λ i. record { parent = p; key = key i; depth = depth_same (get t p) (get u p) above i + 1; kind = kind } in
       local_live t u (Create x p k r kind) e d
       (subst (λ (v : Nodes). Kept t u v (effect u (settled_body u (Create x p k r kind)))) (sym a.effect_is) (subst (Kept t u (insert a.base x m)) (sym b.effect_is)
-      (kept_then t u a.base b.base (insert a.base x m) (insert b.base x n) kept (record {
-        node = node_put a.base b.base a.formed b.formed x m n (ap bare one) a.whole b.whole (λ j s. refl);
-        slot = slot_put a.base b.base a.formed b.formed x m n (ap bare one) a.whole b.whole (λ j s. refl);
-      }))))
+      (kept_then t u a.base b.base (insert a.base x m) (insert b.base x n) kept (kept_put a.base b.base a.formed b.formed x m n (ap bare one) a.whole b.whole (λ j s. refl) (λ h. inr refl)))))
       cells
 
   module _ (e : is_void t (Create x p k r kind) ≡ false) (d : is_void u (Create x p k r kind) ≡ false) where
@@ -268,10 +265,9 @@ module _ (t u : Nodes) (f : IsFormed t) (g : IsFormed u) (x p : NodeId) (k : Lis
         let b = made_in_list u g x p k r kind d too in
         let out : Agrees t u (removal_of t (out_of t p r)) = subst (Agrees t u) (cells_is t p r) agree in
         let gones = gone_at_out t u f g (out_of t p r) (out_of u p r) one (out_is t p r) out in
-        kept_made e d a b (record {
-          node = node_kept t u a.base b.base _ _ p plain (left_acts t f x p r) (left_acts u g x p r) gones f g a.formed b.formed by_name_plain (holds_object_same _ _ above);
-          slot = slot_kept t u a.base b.base _ _ p plain (left_acts t f x p r) (left_acts u g x p r) gones f g a.formed b.formed by_name_plain (holds_object_same _ _ above);
-        }) (settled_same t u f g p slots r x k one)
+        kept_made e d a b
+        (kept_changed t u a.base b.base _ _ p plain (left_acts t f x p r) (left_acts u g x p r) (λ fs h. h) gones f g a.formed b.formed by_name_plain (holds_object_same _ _ above))
+        (settled_same t u f g p slots r x k one)
         (list_cells t holds
         ∙ ap (λ ds. NodeOf x ∷ All x ∷ All p ∷ ds) (cells_is t p r ∙ removals_same t u f g (out_of t p r) (out_of u p r) one (out_is t p r) out ∙ sym (cells_is u p r))
         ∙ sym (list_cells u too))

@@ -24,10 +24,10 @@ use Rattle.room_nodes.proofs.StepForm.{FieldsOf, at_node, object_there, cut_chil
 use Rattle.room_nodes.proofs.Steps.{neither, not_false}
 use Rattle.room_steps.proofs.Booleans.{or_left, or_right, none_of_both}
 use Rattle.room_steps.proofs.Alike.{Alike, parent_same, key_same, holds_list_same, holds_object_same}
-use Rattle.room_steps.proofs.Changing.{Acts, IsByName, node_kept, slot_kept}
+use Rattle.room_steps.proofs.Changing.{Acts, IsByName, Kept, kept_changed}
 use Rattle.room_steps.proofs.Covering.{covered-append}
-use Rattle.room_steps.proofs.Fields.{Named, beside_without, find_without, with_beside}
-use Rattle.room_steps.proofs.Touching.{Framed, Kept, IsOut, child_out, covered_out, covered_slot, covered_slots, gone_at_out, gone_same, gones_same, left_at, own_slot, removals_same, slot_cells_same, slots_cells_same}
+use Rattle.room_steps.proofs.Fields.{Named, beside_without, find_without, ordered_with, ordered_without, with_beside}
+use Rattle.room_steps.proofs.Touching.{Framed, IsOut, child_out, covered_out, covered_slot, covered_slots, gone_at_out, gone_same, gones_same, left_at, own_slot, removals_same, slot_cells_same, slots_cells_same}
 use Rattle.room_steps.proofs.Framing.{AreKept, Covered, node_framed, slot_framed, gone_of, gone_at, plain, acts_plain, acts_then, acts_without}
 use Rattle.room_steps.proofs.Restoring.{step_acts, step_void}
 
@@ -51,7 +51,7 @@ framed_live t b e h = subst (λ (v : Nodes). Framed t v (writes t b)) (sym (step
 
 pub local_void : (t u : Nodes) (b : Body) → is_void t b ≡ true → is_void u b ≡ true → IsLocal t u b
 local_void t u b e d = record {
-  kept = subst (λ (v : Nodes). Kept t u v (step u b)) (sym (step_void t b e)) (subst (Kept t u t) (sym (step_void u b d)) (record { node = λ q h. h; slot = λ q k h. h }));
+  kept = subst (λ (v : Nodes). Kept t u v (step u b)) (sym (step_void t b e)) (subst (Kept t u t) (sym (step_void u b d)) (record { node = λ q h. h; slot = λ q k h. h; matched = λ h. h }));
   cells = writes_by t b true e ∙ sym (writes_by u b true d);
 }
 
@@ -121,12 +121,8 @@ module _ (t u : Nodes) (f : IsFormed t) (g : IsFormed u) (x : NodeId) (k : List 
 
   pub emptied_kept : Kept t u (emptied t x k) (emptied u x k)
   emptied_kept =
-      let a = emptied_acts t f x k n there in
-      let b = emptied_acts u g x k m too in
-      record {
-        node = node_kept t u (emptied t x k) (emptied u x k) _ _ x (without_field k) a b gones f g (emptied_formed t f x k n there) (emptied_formed u g x k m too) (by_name_without k) (holds_object_same _ _ alike);
-        slot = slot_kept t u (emptied t x k) (emptied u x k) _ _ x (without_field k) a b gones f g (emptied_formed t f x k n there) (emptied_formed u g x k m too) (by_name_without k) (holds_object_same _ _ alike);
-      }
+      kept_changed t u (emptied t x k) (emptied u x k) _ _ x (without_field k) (emptied_acts t f x k n there) (emptied_acts u g x k m too) (ordered_without k) gones f g
+      (emptied_formed t f x k n there) (emptied_formed u g x k m too) (by_name_without k) (holds_object_same _ _ alike)
 
 -- delete key
 
@@ -176,10 +172,9 @@ local_update t u f g x fs e d alike agree =
     let h = updated_formed t f x fs n.0 n.1 (not_false _ e) in
     let k = updated_formed u g x fs m.0 m.1 (not_false _ d) in
     let same = gones_same t u f g x fs agree in
-    local_live t u (Update x fs) e d (record {
-      node = node_kept t u _ _ (gone_at t x fs) (gone_at u x fs) x (with_fields fs) a b same f g h k (by_name_with fs) (holds_object_same _ _ alike);
-      slot = slot_kept t u _ _ (gone_at t x fs) (gone_at u x fs) x (with_fields fs) a b same f g h k (by_name_with fs) (holds_object_same _ _ alike);
-    }) (slots_cells_same t u f g x fs agree)
+    local_live t u (Update x fs) e d
+    (kept_changed t u _ _ (gone_at t x fs) (gone_at u x fs) x (with_fields fs) a b (ordered_with fs) same f g h k (by_name_with fs) (holds_object_same _ _ alike))
+    (slots_cells_same t u f g x fs agree)
 
 -- delete
 
@@ -221,10 +216,10 @@ local_delete t u f g x e d alike above agree =
     let ups : up t x ≡ up u x = parent_same _ _ alike in
     let lists : holds_list (get t (up t x)) ≡ holds_list (get u (up u x)) = holds_list_same _ _ above ∙ ap (λ p. holds_list (get u p)) ups in
     let same = gone_same t u f g (Some x) out agree in
-    local_live t u (Delete x) e d (record {
-      node = node_kept t u (removed t x) (removed u x) (gone_of t (Some x)) (gone_of u (Some x)) x plain (acts_without t x (Some x)) (acts_without u x (Some x)) same f g (formed-removed t x f n.2) (formed-removed u x g m.2) by_name_plain (holds_object_same _ _ alike);
-      slot = slot_kept t u (removed t x) (removed u x) (gone_of t (Some x)) (gone_of u (Some x)) x plain (acts_without t x (Some x)) (acts_without u x (Some x)) same f g (formed-removed t x f n.2) (formed-removed u x g m.2) by_name_plain (holds_object_same _ _ alike);
-    }) (ap (λ c. c ∷ removal_cells t x) (cell_same _ _ _ _ _ _ lists ups (key_same _ _ alike)) ∙ ap (λ ds. place u ∷ ds) (removals_same t u f g (Some x) (Some x) refl out agree))
+    local_live t u (Delete x) e d
+    (kept_changed t u (removed t x) (removed u x) (gone_of t (Some x)) (gone_of u (Some x)) x plain (acts_without t x (Some x)) (acts_without u x (Some x)) (λ fs h. h) same f g
+    (formed-removed t x f n.2) (formed-removed u x g m.2) by_name_plain (holds_object_same _ _ alike))
+    (ap (λ c. c ∷ removal_cells t x) (cell_same _ _ _ _ _ _ lists ups (key_same _ _ alike)) ∙ ap (λ ds. place u ∷ ds) (removals_same t u f g (Some x) (Some x) refl out agree))
   where
     place : Nodes → Cell
     place v = cond (holds_list (get v (up v x))) (All (up v x)) (Slot (up v x) (key_in (get v x)))

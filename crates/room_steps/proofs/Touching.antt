@@ -18,6 +18,7 @@ use Rattle.room_nodes.proofs.Gets.{same, same_self, some_inj, some_none, true_fa
 use Rattle.room_nodes.proofs.StepForm.{FieldsOf}
 use Rattle.room_steps.proofs.Booleans.{or_parts, or_left, or_right, none_of_both, and_both}
 use Rattle.room_steps.proofs.Alike.{Alike}
+use Rattle.room_steps.proofs.Changing.{Kept}
 use Rattle.room_steps.proofs.Covering.{Agrees-append, covered-append, is_hit, hit_is, hit_of, covers_node, covers_slot}
 use Rattle.room_steps.proofs.Cutting.{cut, IsSpared}
 use Rattle.room_steps.proofs.Fields.{key_self}
@@ -30,16 +31,11 @@ pub record Framed (t u : Nodes) (ds : List Cell) : Type 0 where
   pub node : (q : NodeId) → overlaps_some (NodeOf q) ds ≡ false → Alike (get t q) (get u q)
   pub slot : (q : NodeId) (k : List ℕ) → overlaps_some (Slot q k) ds ≡ false → SameSlot t u q k
 
--- what t and u agree on, the two after them agree on
-pub record Kept (t u t2 u2 : Nodes) : Type 0 where
-  pub node : (q : NodeId) → Alike (get t q) (get u q) → Alike (get t2 q) (get u2 q)
-  pub slot : (q : NodeId) (k : List ℕ) → SameSlot t u q k → SameSlot t2 u2 q k
-
 pub framed_then : (t u v : Nodes) (ds : List Cell) → Framed t u ds → Framed u v ds → Framed t v ds
 framed_then t u v ds a b = record { node = λ q h. a.node q h ∙ b.node q h; slot = λ q k h. ((a.slot q k h).0 ∙ (b.slot q k h).0, (a.slot q k h).1 ∙ (b.slot q k h).1) }
 
 pub kept_then : (t u t2 u2 t3 u3 : Nodes) → Kept t u t2 u2 → Kept t2 u2 t3 u3 → Kept t u t3 u3
-kept_then t u t2 u2 t3 u3 a b = record { node = λ q h. b.node q (a.node q h); slot = λ q k h. b.slot q k (a.slot q k h) }
+kept_then t u t2 u2 t3 u3 a b = record { node = λ q h. b.node q (a.node q h); slot = λ q k h. b.slot q k (a.slot q k h); matched = λ h. b.matched (a.matched h) }
 
 -- nodes that a child takes with it
 
