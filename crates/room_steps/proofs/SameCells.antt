@@ -1,4 +1,4 @@
--- Where two trees agree on the cells of operations, these cells are the same on both.
+-- Where two trees agree on the cells of operations, these cells are the same on both, and what takes the operations back.
 use Rattle.std.proofs.Common.{◌≡◌, cond, not, List, [], ◌∷◌, ◌++◌, Option, Some, None, refl, sym, ap, ◌∙◌}
 use Rattle.std.specs.FinMap.{get}
 use Rattle.room_ids.specs.declared.ids.NodeId.{NodeId}
@@ -12,11 +12,12 @@ use Rattle.room_nodes.specs.declared.nodes.Node.{Node}
 use Rattle.room_nodes.proofs.Fitting.{both, not_true}
 use Rattle.room_nodes.proofs.Gets.{some_inj, some_none}
 use Rattle.room_nodes.proofs.Steps.{formed-step, formed-fold}
-use Rattle.room_steps.specs.Laws.{CellsStay}
+use Rattle.room_steps.specs.Laws.{CellsStay, SameOnCells}
 use Rattle.room_steps.proofs.Agreement.{create_both, delete_by, local, set_key_by}
 use Rattle.room_steps.proofs.Alike.{Alike, by_alike, holds_list_same, parent_alike}
-use Rattle.room_steps.proofs.Commuting.{agrees_first, agrees_off, agrees_rest, framed_fold}
+use Rattle.room_steps.proofs.Commuting.{agrees_first, agrees_off, agrees_rest, framed_fold, kept_fold, ordered_matched}
 use Rattle.room_steps.proofs.Covering.{Agrees-append}
+use Rattle.room_steps.proofs.Undoing.{reversals_same}
 
 module _ (t u : Nodes) (f : IsFormed t) (g : IsFormed u) where
   set_key_same : (x : NodeId) (o w : Option Node) → Alike o w → Agrees t u (set_key_reads t x o) → set_key_reads t x o ≡ set_key_reads u x w
@@ -38,11 +39,18 @@ module _ (t u : Nodes) (f : IsFormed t) (g : IsFormed u) where
   cells_same : (b : Body) → Agrees t u (reads t b ++ writes t b) → reads t b ++ writes t b ≡ reads u b ++ writes u b
   cells_same b h = ap (λ ds. ds ++ writes t b) (reads_same b (Agrees-append t u (reads t b) (writes t b) h).0) ∙ ap (λ ds. reads u b ++ ds) (local t u f g b h).cells
 
-pub all_cells_same : (t u : Nodes) → IsFormed t → IsFormed u → (bs : List Body) → Agrees t u (cells_all t bs) → cells_all t bs ≡ cells_all u bs
+all_cells_same : (t u : Nodes) → IsFormed t → IsFormed u → (bs : List Body) → Agrees t u (cells_all t bs) → cells_all t bs ≡ cells_all u bs
 all_cells_same t u f g [] h = refl
 all_cells_same t u f g (b ∷ bs) h =
     ap (λ ds. ds ++ cells_all (step t b) bs) (cells_same t u f g b (agrees_first t u f g b bs h))
     ∙ ap (λ ds. (reads u b ++ writes u b) ++ ds) (all_cells_same (step t b) (step u b) (formed-step t f b) (formed-step u g b) bs (agrees_rest t u f g b bs h))
+
+pub same_on_cells : SameOnCells
+same_on_cells = record {
+  cells = λ t u bs f g h. sym (all_cells_same t u f g bs h);
+  writes = λ t u bs f g h. sym (kept_fold t u f g bs h).1;
+  reversal = λ t u bs f g o p h. sym (reversals_same t u f g (ordered_matched t u o p) bs h);
+}
 
 pub cells_stay : CellsStay
 cells_stay t bs cs f apart =
