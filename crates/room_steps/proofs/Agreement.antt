@@ -21,9 +21,9 @@ use Rattle.room_nodes.proofs.Fitting.{some_of}
 use Rattle.room_nodes.proofs.Gets.{get_here, get_other, here_or_old, one_or_two, same_self, some_inj, true_false}
 use Rattle.room_nodes.proofs.StepForm.{at_node}
 use Rattle.room_nodes.proofs.Steps.{neither, not_false, can_set_key, formed-step}
-use Rattle.room_steps.proofs.Booleans.{or_left, none_of_both}
+use Rattle.room_steps.proofs.Booleans.{or_left}
 use Rattle.room_steps.proofs.Alike.{Alike, alike_some, has_room_same, holds_list_same, holds_object_same, parent_same, some_same, under_same}
-use Rattle.room_steps.proofs.Changing.{Kept}
+use Rattle.room_steps.proofs.Changing.{Kept, found_in}
 use Rattle.room_steps.proofs.Covering.{Agrees-append}
 use Rattle.room_steps.proofs.Creations.{out_by, out_of, placed_same, framed_create, local_in_list, local_at_key}
 use Rattle.room_steps.proofs.Touching.{Framed}
@@ -54,7 +54,7 @@ module _ (t : Nodes) (f : IsFormed t) (x : NodeId) (k : List ℕ) (e : is_void t
   made = (can_set_key t f x k e).made
 
   off_parent : (q : NodeId) (j : List ℕ) → overlaps_some (Slot q j) (All (up t x) ∷ NodeOf x ∷ []) ≡ false → n.parent ≢ q
-  off_parent q j off h = true_false (sym (ap (λ z. is_same z (up t x)) (sym h ∙ sym above) ∙ same_self (up t x)) ∙ (none_of_both (is_same q (up t x)) _ off).0)
+  off_parent q j off h = true_false (sym (ap (λ z. is_same z (up t x)) (sym h ∙ sym above) ∙ same_self (up t x)) ∙ (neither (is_same q (up t x)) _ off).0)
 
   moved_framed : Framed t moved (All (up t x) ∷ NodeOf x ∷ [])
   moved_framed = record {
@@ -79,9 +79,6 @@ module _ (t : Nodes) (f : IsFormed t) (x : NodeId) (k : List ℕ) (e : is_void t
     );
   }
     where
-      found_in : List ℕ → Option Node → Option Value
-      found_in j o = find (slice_cmp nat_cmp) j (fields_in o)
-
       fields : List ℕ → Nodes → NodeId → Option Value
       fields j v q = find (slice_cmp nat_cmp) j (fields_in (get v q))
 

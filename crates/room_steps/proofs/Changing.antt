@@ -91,7 +91,7 @@ bare_left x g q false (Some n) = ap Some (edited_bare (is_same q x) g n)
 abbrev pub IsByName : (FieldsOf → FieldsOf) → Type 0
 IsByName g = (k : List ℕ) (es fs : FieldsOf) → find (slice_cmp nat_cmp) k es ≡ find (slice_cmp nat_cmp) k fs → find (slice_cmp nat_cmp) k (g es) ≡ find (slice_cmp nat_cmp) k (g fs)
 
-abbrev found_in : List ℕ → Option Node → Option Value
+abbrev pub found_in : List ℕ → Option Node → Option Value
 found_in k o = find (slice_cmp nat_cmp) k (fields_in o)
 
 module _ (g : FieldsOf → FieldsOf) (local : IsByName g) (k : List ℕ) where

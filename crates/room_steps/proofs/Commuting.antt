@@ -18,15 +18,15 @@ use Rattle.room_nodes.specs.declared.nodes.Kind.TheVariants.{Object, List as Lis
 use Rattle.room_nodes.specs.declared.nodes.Node.{Node}
 use Rattle.room_nodes.proofs.Gets.{same, same_self, some_inj, some_none, true_false}
 use Rattle.room_nodes.proofs.Fitting.{both, not_true}
-use Rattle.room_nodes.proofs.Steps.{formed-step, formed-fold}
+use Rattle.room_nodes.proofs.Steps.{formed-step, formed-fold, neither}
 use Rattle.room_steps.specs.Laws.{Outside, Footprints}
 use Rattle.room_nodes.specs.Ordered.{AreOrderedBodies, IsOrderedKind, IsOrderedTree}
-use Rattle.room_steps.proofs.Booleans.{by_no, or_parts, or_left, or_right, none_of_both, and_parts, and_both, and_false}
+use Rattle.room_steps.proofs.Booleans.{by_no, or_parts, or_left, or_right, and_both, and_false}
 use Rattle.room_steps.proofs.Agreement.{framed, local}
 use Rattle.room_steps.proofs.Alike.{Alike, parent_alike, key_alike}
 use Rattle.room_steps.proofs.Changing.{AreMatched, Kept}
-use Rattle.room_steps.proofs.Covering.{Agrees-append, covered-append, same_name}
-use Rattle.room_steps.proofs.Fields.{key_self, same_fields}
+use Rattle.room_steps.proofs.Covering.{Agrees-append, covered-append}
+use Rattle.room_steps.proofs.Fields.{key_self, same_fields, same_name}
 use Rattle.room_steps.proofs.Touching.{Framed, framed_then, kept_then}
 use Rattle.room_steps.proofs.OrderedSteps.{ordered_fold}
 
@@ -34,14 +34,14 @@ use Rattle.room_steps.proofs.OrderedSteps.{ordered_fold}
 
 framed_left : (t u : Nodes) (ds es : List Cell) → Framed t u ds → Framed t u (ds ++ es)
 framed_left t u ds es h = record {
-  node = λ q off. h.node q (none_of_both (overlaps_some (NodeOf q) ds) _ (sym (covered-append (NodeOf q) ds es) ∙ off)).0;
-  slot = λ q k off. h.slot q k (none_of_both (overlaps_some (Slot q k) ds) _ (sym (covered-append (Slot q k) ds es) ∙ off)).0;
+  node = λ q off. h.node q (neither (overlaps_some (NodeOf q) ds) _ (sym (covered-append (NodeOf q) ds es) ∙ off)).0;
+  slot = λ q k off. h.slot q k (neither (overlaps_some (Slot q k) ds) _ (sym (covered-append (Slot q k) ds es) ∙ off)).0;
 }
 
 framed_right : (t u : Nodes) (ds es : List Cell) → Framed t u es → Framed t u (ds ++ es)
 framed_right t u ds es h = record {
-  node = λ q off. h.node q (none_of_both (overlaps_some (NodeOf q) ds) _ (sym (covered-append (NodeOf q) ds es) ∙ off)).1;
-  slot = λ q k off. h.slot q k (none_of_both (overlaps_some (Slot q k) ds) _ (sym (covered-append (Slot q k) ds es) ∙ off)).1;
+  node = λ q off. h.node q (neither (overlaps_some (NodeOf q) ds) _ (sym (covered-append (NodeOf q) ds es) ∙ off)).1;
+  slot = λ q k off. h.slot q k (neither (overlaps_some (Slot q k) ds) _ (sym (covered-append (Slot q k) ds es) ∙ off)).1;
 }
 
 pub framed_fold : (t : Nodes) → IsFormed t → (bs : List Body) → Framed t (fold t bs) (writes_all t bs)
@@ -85,13 +85,9 @@ name_sym : (j k : List ℕ) → eq_by_cmp (slice_cmp nat_cmp) j k ≡ true → e
 name_sym j k e = ap (eq_by_cmp (slice_cmp nat_cmp) k) (same_name j k e) ∙ key_self k
 
 both_sym : (x y : NodeId) (j k : List ℕ) → (is_same x y && eq_by_cmp (slice_cmp nat_cmp) j k) ≡ false → (is_same y x && eq_by_cmp (slice_cmp nat_cmp) k j) ≡ false
-both_sym x y j k e = off_by _ refl
-  where
-    off_by : (b : Bool) → (is_same y x && eq_by_cmp (slice_cmp nat_cmp) k j) ≡ b → (is_same y x && eq_by_cmp (slice_cmp nat_cmp) k j) ≡ false
-    off_by false h = h
-    off_by true h =
-        let p = and_parts (is_same y x) _ h in
-        absurd (true_false (sym (and_both (is_same x y) _ (ap (is_same x) (same y x p.0) ∙ same_self x) (name_sym k j p.1)) ∙ e))
+both_sym x y j k e = by_no (is_same y x && eq_by_cmp (slice_cmp nat_cmp) k j) (λ h.
+    let p = both (is_same y x) _ h in
+    true_false (sym (and_both (is_same x y) _ (ap (is_same x) (same y x p.0) ∙ same_self x) (name_sym k j p.1)) ∙ e))
 
 -- a cell w against a cell of the other list, turned round
 
@@ -114,15 +110,15 @@ all_off (All x) q k e = same_sym x q e
 first_off : (ws : List Cell) (d : Cell) (ds : List Cell) → meets ws (d ∷ ds) ≡ false → (c : Cell) → ((w : Cell) → overlaps w d ≡ false → overlaps c w ≡ false) → overlaps_some c ws ≡ false
 first_off [] d ds e c h = refl
 first_off (w ∷ ws) d ds e c h =
-    let a = none_of_both (overlaps_some w (d ∷ ds)) _ e in
-    let b = none_of_both (overlaps w d) _ a.0 in
+    let a = neither (overlaps_some w (d ∷ ds)) _ e in
+    let b = neither (overlaps w d) _ a.0 in
     rw (h w b.0, first_off ws d ds a.1 c h) refl
 
 rest_off : (ws : List Cell) (d : Cell) (ds : List Cell) → meets ws (d ∷ ds) ≡ false → meets ws ds ≡ false
 rest_off [] d ds e = refl
 rest_off (w ∷ ws) d ds e =
-    let a = none_of_both (overlaps_some w (d ∷ ds)) _ e in
-    let b = none_of_both (overlaps w d) _ a.0 in
+    let a = neither (overlaps_some w (d ∷ ds)) _ e in
+    let b = neither (overlaps w d) _ a.0 in
     rw (b.1, rest_off ws d ds a.1) refl
 
 -- what is framed by cells that ds doesn't meet agrees on ds
@@ -155,12 +151,12 @@ slot_meets : (q : NodeId) (k : List ℕ) (w d : Cell) → overlaps (Slot q k) w 
 slot_meets q k (NodeOf x) d a b = cc
 slot_meets q k (Slot x j) (NodeOf y) a b = cc
 slot_meets q k (Slot x j) (Slot y i) a b =
-    let p = and_parts (is_same q x) _ a in
-    let r = and_parts (is_same q y) _ b in
+    let p = both (is_same q x) _ a in
+    let r = both (is_same q y) _ b in
     and_both (is_same x y) _ (ap (λ z. is_same z y) (sym (same q x p.0)) ∙ r.0) (ap (λ z. eq_by_cmp (slice_cmp nat_cmp) z i) (sym (same_name k j p.1)) ∙ r.1)
-slot_meets q k (Slot x j) (All y) a b = ap (λ z. is_same z y) (sym (same q x (and_parts (is_same q x) _ a).0)) ∙ b
+slot_meets q k (Slot x j) (All y) a b = ap (λ z. is_same z y) (sym (same q x (both (is_same q x) _ a).0)) ∙ b
 slot_meets q k (All x) (NodeOf y) a b = cc
-slot_meets q k (All x) (Slot y i) a b = ap (λ z. is_same z y) (sym (same q x a)) ∙ (and_parts (is_same q y) _ b).0
+slot_meets q k (All x) (Slot y i) a b = ap (λ z. is_same z y) (sym (same q x a)) ∙ (both (is_same q y) _ b).0
 slot_meets q k (All x) (All y) a b = ap (λ z. is_same z y) (sym (same q x a)) ∙ b
 
 module _ (c : Cell) (meet : (w d : Cell) → overlaps c w ≡ true → overlaps c d ≡ true → overlaps w d ≡ true) where
@@ -173,11 +169,7 @@ module _ (c : Cell) (meet : (w d : Cell) → overlaps c w ≡ true → overlaps 
   all_meet (w ∷ ws) ds a b = elim (or_parts (overlaps c w) _ a) [ inl e ↦ or_left _ _ (some_meets w ds e b) | inr e ↦ or_right (overlaps_some w ds) _ (all_meet ws ds e b) ]
 
   apart_off : (t : Nodes) (ws : List Cell) (bs : List Body) → meets ws (cells_all t bs) ≡ false → overlaps_some c ws ≡ true → overlaps_some c (writes_all t bs) ≡ false
-  apart_off t ws bs e a = off_by _ refl
-    where
-      off_by : (b : Bool) → overlaps_some c (writes_all t bs) ≡ b → overlaps_some c (writes_all t bs) ≡ false
-      off_by false h = h
-      off_by true h = absurd (true_false (sym (all_meet ws (cells_all t bs) a (written_there c t bs h)) ∙ e))
+  apart_off t ws bs e a = by_no (overlaps_some c (writes_all t bs)) (λ h. true_false (sym (all_meet ws (cells_all t bs) a (written_there c t bs h)) ∙ e))
 
 -- trees that agree everywhere are one
 
@@ -275,7 +267,7 @@ module _ (t : Nodes) (bs cs : List Body) (f : IsFormed t) (o : IsOrderedTree t) 
 
 all_covers : (x : NodeId) (k : List ℕ) (ds : List Cell) → overlaps_some (All x) ds ≡ false → overlaps_some (Slot x k) ds ≡ false
 all_covers x k [] e = refl
-all_covers x k (d ∷ ds) e = let a = none_of_both (overlaps (All x) d) _ e in rw (one_covers x k d a.0, all_covers x k ds a.1) refl
+all_covers x k (d ∷ ds) e = let a = neither (overlaps (All x) d) _ e in rw (one_covers x k d a.0, all_covers x k ds a.1) refl
   where
     one_covers : (x : NodeId) (k : List ℕ) (d : Cell) → overlaps (All x) d ≡ false → overlaps (Slot x k) d ≡ false
     one_covers x k (NodeOf y) e = refl

@@ -1,8 +1,6 @@
 -- Which cells a list of cells covers.
 use Rattle.std.proofs.Common.{◌≡◌, ◌⊎◌, inl, inr, ℕ, Bool, true, false, cond, ◌&&◌, ◌||◌, List, [], ◌∷◌, ◌++◌, Option, Some, None, is_some, refl, sym, ap, ◌∙◌, subst}
-use Rattle.std.specs.Cmp.Lexicographic.{slice_cmp}
 use Rattle.std.specs.FinMap.{get, entries}
-use Rattle.std.specs.Ordering.{nat_cmp, eq_by_cmp}
 use Rattle.room_ids.specs.Order.{is_same}
 use Rattle.room_ids.specs.declared.ids.NodeId.{NodeId}
 use Rattle.room_nodes.specs.Cells.{Agrees, AgreesOn, SameSlot, overlaps, overlaps_some, removal_among, removal_cells}
@@ -10,13 +8,12 @@ use Rattle.room_nodes.specs.Shape.{Nodes, is_below}
 use Rattle.room_nodes.specs.declared.cells.Cell.{Cell}
 use Rattle.room_nodes.specs.declared.cells.Cell.TheVariants.{Node as NodeOf, Slot, All}
 use Rattle.room_nodes.specs.declared.nodes.Node.{Node}
-use Rattle.room_nodes.proofs.Children.{entry_of, text_exact}
+use Rattle.room_nodes.proofs.Children.{entry_of}
 use Rattle.room_nodes.proofs.Gets.{same, same_self, true_false}
-use Rattle.room_nodes.proofs.Listing.{Has, is_equal}
-use Rattle.room_steps.proofs.Booleans.{or_parts, or_left, or_right, and_parts}
-
-pub same_name : (j k : List ℕ) → eq_by_cmp (slice_cmp nat_cmp) j k ≡ true → j ≡ k
-same_name j k e = text_exact j k (is_equal _ e)
+use Rattle.room_nodes.proofs.Listing.{Has}
+use Rattle.room_nodes.proofs.Fitting.{both}
+use Rattle.room_steps.proofs.Booleans.{or_parts, or_left, or_right}
+use Rattle.room_steps.proofs.Fields.{same_name}
 
 -- a cell against two lists, one behind the other
 
@@ -43,7 +40,7 @@ module _ (t u : Nodes) where
   slot_by : (q : NodeId) (k : List ℕ) (d : Cell) → AgreesOn t u d → overlaps (Slot q k) d ≡ true → AgreesOn t u (Slot q k)
   slot_by q k (NodeOf x) h e = cc
   slot_by q k (Slot x j) h e =
-      let p = and_parts (is_same q x) _ e in
+      let p = both (is_same q x) _ e in
       subst (λ z. SameSlot t u z k) (sym (same q x p.0)) (subst (λ i. SameSlot t u x i) (sym (same_name k j p.1)) h)
   slot_by q k (All x) h e = subst (λ z. SameSlot t u z k) (sym (same q x e)) (h k)
 

@@ -155,13 +155,9 @@ put_framed c x m rest h fresh place =
 
 framed_wider : (t u : Nodes) (x : NodeId) (ds : List Cell) → Framed t u ds → Framed t u (NodeOf x ∷ All x ∷ ds)
 framed_wider t u x ds h = record {
-  node = λ q off. h.node q (second_off (is_same q x) _ off);
-  slot = λ q k off. h.slot q k (second_off (is_same q x) _ off);
+  node = λ q off. h.node q (neither (is_same q x) _ off).1;
+  slot = λ q k off. h.slot q k (neither (is_same q x) _ off).1;
 }
-  where
-    second_off : (a b : Bool) → (a || b) ≡ false → b ≡ false
-    second_off true b e = cc
-    second_off false b e = e
 
 module _ (t : Nodes) (f : IsFormed t) (x p : NodeId) (k : List ℕ) (r : Option NodeId) (kind : Kind) (e : is_void t (Create x p k r kind) ≡ false) where
   fresh : is_some (get t x) ≡ false

@@ -3,12 +3,11 @@ use Rattle.std.proofs.Common.{◌≡◌, ◌≢◌, inl, inr, ℕ, Bool, true, f
 use Rattle.std.specs.Cmp.Lexicographic.{slice_cmp}
 use Rattle.std.specs.FinMap.{get, insert, find}
 use Rattle.std.specs.Ordering.{nat_cmp}
-use Rattle.room_json.specs.Value.{Value}
 use Rattle.room_ids.specs.Order.{is_same}
 use Rattle.room_ids.specs.declared.ids.NodeId.{NodeId}
 use Rattle.room_ids.specs.declared.ids.NodeId.TheVariants.{Root}
 use Rattle.room_nodes.specs.Cells.{SameSlot, bare, field_at, overlaps_some}
-use Rattle.room_nodes.specs.Primitives.{fields_in, kind_fields}
+use Rattle.room_nodes.specs.Primitives.{kind_fields}
 use Rattle.room_nodes.specs.Shape.{Nodes, IsFormed, child_at, is_below}
 use Rattle.room_nodes.specs.Steps.{fields_kind, on_fields, without}
 use Rattle.room_nodes.specs.declared.cells.Cell.{Cell}
@@ -20,12 +19,9 @@ use Rattle.room_nodes.proofs.Gets.{get_here, get_other, get_removed, here_or_old
 use Rattle.room_nodes.proofs.StepForm.{FieldsOf}
 use Rattle.room_steps.proofs.Booleans.{by_no}
 use Rattle.room_steps.proofs.Alike.{Alike, bare_fields, parent_alike, key_alike}
-use Rattle.room_steps.proofs.Changing.{Acts, AreMatched, IsMatched, Kept, edited, edited_by, map_same, stays_there, was_there, child_was, child_stays}
+use Rattle.room_steps.proofs.Changing.{Acts, AreMatched, IsMatched, Kept, edited, edited_by, found_in, map_same, stays_there, was_there, child_was, child_stays}
 use Rattle.room_steps.proofs.Covering.{is_hit}
 use Rattle.room_steps.proofs.Kin.{IsChild, carried, same_child}
-
-abbrev found_in : List ℕ → Option Node → Option Value
-found_in k o = find (slice_cmp nat_cmp) k (fields_in o)
 
 -- where no written cell lies, nothing changes
 

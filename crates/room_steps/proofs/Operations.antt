@@ -22,7 +22,7 @@ use Rattle.room_nodes.proofs.Formed.{formed-removed}
 use Rattle.room_nodes.proofs.Gets.{same_self, some_inj, true_false}
 use Rattle.room_nodes.proofs.StepForm.{FieldsOf, at_node, object_there, cut_child, cut_children, formed-cleared, formed-update}
 use Rattle.room_nodes.proofs.Steps.{neither, not_false}
-use Rattle.room_steps.proofs.Booleans.{or_left, or_right, none_of_both}
+use Rattle.room_steps.proofs.Booleans.{or_left, or_right}
 use Rattle.room_steps.proofs.Alike.{Alike, parent_same, key_same, holds_list_same, holds_object_same}
 use Rattle.room_steps.proofs.Changing.{Acts, IsByName, Kept, kept_changed}
 use Rattle.room_steps.proofs.Covering.{covered-append}
@@ -78,14 +78,14 @@ off_other : (x : NodeId) (j k : List ℕ) → overlaps (Slot x j) (Slot x k) ≡
 off_other x j k h e = true_false (sym (own_slot x j) ∙ ap (λ i. overlaps (Slot x j) (Slot x i)) (sym e) ∙ h)
 
 kept_without : (x : NodeId) (k : List ℕ) (ds : List Cell) → AreKept (without_field k) x (Slot x k ∷ ds)
-kept_without x k ds j off es = beside_without j k es (off_other x j k (none_of_both (overlaps (Slot x j) (Slot x k)) _ off).0)
+kept_without x k ds j off es = beside_without j k es (off_other x j k (neither (overlaps (Slot x j) (Slot x k)) _ off).0)
 
 off_named : (t : Nodes) (x : NodeId) (j : List ℕ) (fs : FieldsOf) → overlaps_some (Slot x j) (slots_cells t x fs) ≡ false → Named j fs → ⊥
 off_named t x j [] off m = m
 off_named t x j (e ∷ fs) off m =
-    let a = none_of_both (overlaps_some (Slot x j) (slot_cells t x e.0)) _ (sym (covered-append (Slot x j) (slot_cells t x e.0) (slots_cells t x fs)) ∙ off) in
+    let a = neither (overlaps_some (Slot x j) (slot_cells t x e.0)) _ (sym (covered-append (Slot x j) (slot_cells t x e.0) (slots_cells t x fs)) ∙ off) in
     elim m [
-      | inl is ↦ off_other x j e.0 (none_of_both (overlaps (Slot x j) (Slot x e.0)) _ a.0).0 is
+      | inl is ↦ off_other x j e.0 (neither (overlaps (Slot x j) (Slot x e.0)) _ a.0).0 is
       | inr m ↦ off_named t x j fs a.1 m
     ]
 

@@ -10,8 +10,9 @@ use Rattle.room_nodes.specs.Shallow.{are_shallow, is_shallow_kind, is_shallow, A
 use Rattle.room_nodes.specs.Shape.{Nodes}
 use Rattle.room_nodes.specs.Steps.{step, fold, settled_body, with_fields, without_field}
 use Rattle.room_nodes.proofs.StepForm.{FieldsOf}
+use Rattle.room_nodes.proofs.Fitting.{both}
 use Rattle.room_steps.specs.Laws.{KeepsShallow}
-use Rattle.room_steps.proofs.Booleans.{and_parts, and_both}
+use Rattle.room_steps.proofs.Booleans.{and_both}
 use Rattle.room_steps.proofs.Keeping.{OfEach, Brings, Spares, each_with, each_without, of_kind, all_step, of_settled}
 
 -- fields
@@ -21,7 +22,7 @@ Low k v = nat_le (depth v) 55 ≡ true
 
 each_low : (fs : FieldsOf) → are_shallow fs ≡ true → OfEach Low fs
 each_low [] h = tt
-each_low (f ∷ fs) h = let a = and_parts (nat_le (depth f.1) 55) _ h in (a.0, each_low fs a.1)
+each_low (f ∷ fs) h = let a = both (nat_le (depth f.1) 55) _ h in (a.0, each_low fs a.1)
 
 low_each : (fs : FieldsOf) → OfEach Low fs → are_shallow fs ≡ true
 low_each [] h = refl
@@ -35,19 +36,19 @@ shallow_without k fs h = low_each (without_field k fs) (each_without Low k fs (e
 
 -- nodes and operations
 
-abbrev Kinds : Kind → Type 0
-Kinds kind = is_shallow_kind kind ≡ true
+abbrev IsLowKind : Kind → Type 0
+IsLowKind kind = is_shallow_kind kind ≡ true
 
 abbrev IsLow : NodeId → Node → Type 0
-IsLow x n = is_shallow_kind n.kind ≡ true
+IsLow x n = IsLowKind n.kind
 
 spares : Spares IsLow
-spares x k n h = of_kind Kinds (without_field k) (shallow_without k) n.kind h
+spares x k n h = of_kind IsLowKind (without_field k) (shallow_without k) n.kind h
 
 brings : (b : Body) → is_shallow b ≡ true → Brings IsLow b
 brings (SetKey x k) h = λ n m. m
 brings (Create x p k r kind) h = λ d. h
-brings (Update x fs) h = λ n m. of_kind Kinds (with_fields fs) (λ gs g. shallow_with fs gs h g) n.kind m
+brings (Update x fs) h = λ n m. of_kind IsLowKind (with_fields fs) (λ gs g. shallow_with fs gs h g) n.kind m
 brings (Delete x) h = tt
 brings (DeleteKey x k) h = tt
 

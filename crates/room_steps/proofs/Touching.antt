@@ -16,7 +16,8 @@ use Rattle.room_nodes.proofs.Below.{below_step}
 use Rattle.room_nodes.proofs.Fitting.{the_parent}
 use Rattle.room_nodes.proofs.Gets.{same, same_self, some_inj, some_none, true_false}
 use Rattle.room_nodes.proofs.StepForm.{FieldsOf}
-use Rattle.room_steps.proofs.Booleans.{or_parts, or_left, or_right, none_of_both, and_both}
+use Rattle.room_nodes.proofs.Steps.{neither}
+use Rattle.room_steps.proofs.Booleans.{or_parts, or_left, or_right, and_both}
 use Rattle.room_steps.proofs.Alike.{Alike}
 use Rattle.room_steps.proofs.Changing.{Kept}
 use Rattle.room_steps.proofs.Covering.{Agrees-append, covered-append, is_hit, hit_is, hit_of, covers_node, covers_slot}
@@ -129,7 +130,7 @@ module _ (t : Nodes) (f : IsFormed t) (x : NodeId) where
   off_spared : (fs : FieldsOf) (q : NodeId) (n : Node) → get t q ≡ Some n → gone_at t x fs q ≡ false → IsSpared x t fs q
   off_spared [] q n e h k z m there = absurd m
   off_spared (d ∷ fs) q n e h k z m there =
-      let a = none_of_both (gone_of t (child_at t x d.0) q) _ h in
+      let a = neither (gone_of t (child_at t x d.0) q) _ h in
       elim m [
         | inl is ↦ off_below z q n e (ap (λ o. gone_of t o q) (sym there ∙ ap (child_at t x) (sym is)) ∙ a.0)
         | inr m ↦ off_spared fs q n e a.1 k z m there
