@@ -1,2 +1,4 @@
+pub mod Following
+pub mod Same
 pub mod Takings
 pub mod ValidStates

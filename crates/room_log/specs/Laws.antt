@@ -1,6 +1,5 @@
 -- Laws of the log: what is taken, and what follows.
 use Rattle.std.specs.Prelude.{◌≡◌, ◌≤◌, ◌+◌, ◌↔◌, ℕ, true, List, Some}
-use Rattle.room_nodes.specs.declared.nodes.Body.{Body}
 use Rattle.room_nodes.specs.declared.nodes.Op.{Op}
 use Rattle.room_nodes.specs.Shallow.{AreShallowOps}
 use Rattle.room_nodes.specs.Sound.{AreSoundOps}
