@@ -64,17 +64,18 @@ last_with ss zero c s p = cc
 last_with ss (suc i) c s p = last_set ss i c s (slice_get ss i) refl p
 
 -- what an update that is taken says of the operations that were left
-record Took (s : State) (a : ℕ) (rest : List Op) (gap : Option (ℕ × ℕ)) (u : Update) : Type 0 where
-  none : gap ≡ None
-  actor : u.actor ≡ a
-  some : 0 < length rest
-  first : (e : ℕ) → gap_in e rest ≡ None → u.first ≡ e
-  count : length u.bodies ≡ length rest
+pub record Took (s : State) (a : ℕ) (rest : List Op) (gap : Option (ℕ × ℕ)) (u : Update) : Type 0 where
+  pub none : gap ≡ None
+  pub actor : u.actor ≡ a
+  pub some : 0 < length rest
+  pub first : (e : ℕ) → gap_in e rest ≡ None → u.first ≡ e
+  pub bodies : u.bodies ≡ settle_all s.tree (bodies_of rest)
+  pub count : length u.bodies ≡ length rest
 
 first_clock : (o : Op) (os : List Op) (e : ℕ) → gap_in e (o ∷ os) ≡ None → clock_of o ≡ e
 first_clock o os e p = eqb-true (clock_of o) e (kept_none (clock_of o == e) e (clock_of o) (gap_in (e + 1) os) p).0
 
-takes_of : (s : State) (a : ℕ) (rest : List Op) (gap : Option (ℕ × ℕ)) (u : Update) → taken_rest s a rest gap ≡ Takes u → Took s a rest gap u
+pub takes_of : (s : State) (a : ℕ) (rest : List Op) (gap : Option (ℕ × ℕ)) (u : Update) → taken_rest s a rest gap ≡ Takes u → Took s a rest gap u
 takes_of s a [] gap u p = cc
 takes_of s a (o ∷ os) (Some g) u p = cc
 takes_of s a (o ∷ os) None u p =
@@ -83,6 +84,7 @@ takes_of s a (o ∷ os) None u p =
       none = refl;
       actor = sym (ap (λ (v : Update). v.actor) q);
       some = omega arith;
+      bodies = sym (ap (λ (v : Update). v.bodies) q);
       first = λ e g. sym (ap (λ (v : Update). v.first) q) ∙ first_clock o os e g;
       count = sym (ap (λ (v : Update). length v.bodies) q) ∙ settle_length s.tree (bodies_of (o ∷ os)) ∙ bodies_length (o ∷ os);
     }
