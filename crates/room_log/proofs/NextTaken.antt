@@ -1,5 +1,5 @@
 -- What is taken of a session's operations follows.
-use Rattle.std.proofs.Common.{ℕ, ◌+◌, Bool, true, false, cond, nat_lt, List, [], ◌∷◌, sym, ap, ◌∙◌, subst, arith}
+use Rattle.std.proofs.Common.{◌≡◌, Option, Some, None, ℕ, ◌+◌, Bool, true, false, cond, nat_lt, List, [], ◌∷◌, sym, ap, ◌∙◌, subst, arith}
 use Rattle.room_nodes.specs.declared.nodes.Op.{Op}
 use Rattle.room_nodes.specs.declared.nodes.Body.{Body}
 use Rattle.room_nodes.specs.Shallow.{AreShallow, AreShallowOps}
@@ -8,8 +8,8 @@ use Rattle.room_nodes.specs.Sound.{AreSoundBodies, AreSoundOps, IsSoundTree}
 use Rattle.room_nodes.specs.Steps.{step, settled_body, settle_all}
 use Rattle.room_nodes.proofs.Steps.{formed-step}
 use Rattle.room_steps.specs.Laws.{KeepsShallow, KeepsSound, SettlesOnce}
-use Rattle.room_log.specs.Log.{bodies_of, clock_of, last_in, last_of, session_of}
-use Rattle.room_log.specs.Take.{rest_beyond, gap_in}
+use Rattle.room_log.specs.Log.{State, Update, bodies_of, clock_of, last_in, last_of, session_of}
+use Rattle.room_log.specs.Take.{Takes, rest_beyond, gap_in, taken_rest}
 use Rattle.room_log.specs.Follows.{IsNextUpdate}
 use Rattle.room_log.specs.Laws.{TakenFollows}
 use Rattle.room_log.proofs.Following.{follows_exactly}
@@ -49,19 +49,26 @@ fits_settled keeps shallows t (b ∷ bs) f k h =
     let more = fits_settled keeps shallows (step t (settled_body t b)) bs (formed-step t f (settled_body t b)) (keeps.step t (settled_body t b) f k sound) (record { sound = h.sound.1; shallow = h.shallow.1 }) in
     record { sound = (sound, more.sound); shallow = (shallows.settled t b h.shallow.0, more.shallow) }
 
+-- what is taken is settled
+taken_settled : (s : State) (a : ℕ) (rest : List Op) (gap : Option (ℕ × ℕ)) (u : Update) → taken_rest s a rest gap ≡ Takes u → u.bodies ≡ settle_all s.tree (bodies_of rest)
+taken_settled s a [] gap u p = cc
+taken_settled s a (o ∷ os) (Some g) u p = cc
+taken_settled s a (o ∷ os) None u p = cc
+
 pub taken_follows : KeepsSound → KeepsShallow → SettlesOnce → TakenFollows
 taken_follows keeps shallows settles s a os u session valid known sound shallow p greatest room =
     let last = last_of s.sessions a in
     let rest = rest_beyond last os in
     let t : Took s a rest (gap_in (last + 1) rest) u = takes_of s a rest _ u p in
     let settled = fits_settled keeps shallows s.tree (bodies_of rest) valid.formed valid.sound (fits_bodies rest (fit_rest last os (record { sound = sound; shallow = shallow }))) in
-    let fits : Fits u.bodies = subst Fits (sym t.bodies) settled in
+    let bodies : u.bodies ≡ settle_all s.tree (bodies_of rest) = taken_settled s a rest _ u p in
+    let fits : Fits u.bodies = subst Fits (sym bodies) settled in
     let next : IsNextUpdate s u = record {
       session = session;
       known = ap (session_of s.sessions) t.actor ∙ known;
       first = t.first (last + 1) t.none ∙ ap (λ o. last_in o + 1) known;
       some = omega (arith, t.some, t.count);
-      settled = ap (settle_all s.tree) t.bodies ∙ settles.again s.tree (bodies_of rest) valid.formed ∙ sym t.bodies;
+      settled = ap (settle_all s.tree) bodies ∙ settles.again s.tree (bodies_of rest) valid.formed ∙ sym bodies;
       shallow = fits.shallow;
       last = greatest;
       count = room;

@@ -69,7 +69,6 @@ pub record Took (s : State) (a : ℕ) (rest : List Op) (gap : Option (ℕ × ℕ
   pub actor : u.actor ≡ a
   pub some : 0 < length rest
   pub first : (e : ℕ) → gap_in e rest ≡ None → u.first ≡ e
-  pub bodies : u.bodies ≡ settle_all s.tree (bodies_of rest)
   pub count : length u.bodies ≡ length rest
 
 first_clock : (o : Op) (os : List Op) (e : ℕ) → gap_in e (o ∷ os) ≡ None → clock_of o ≡ e
@@ -78,16 +77,13 @@ first_clock o os e p = eqb-true (clock_of o) e (kept_none (clock_of o == e) e (c
 pub takes_of : (s : State) (a : ℕ) (rest : List Op) (gap : Option (ℕ × ℕ)) (u : Update) → taken_rest s a rest gap ≡ Takes u → Took s a rest gap u
 takes_of s a [] gap u p = cc
 takes_of s a (o ∷ os) (Some g) u p = cc
-takes_of s a (o ∷ os) None u p =
-    let q : record { actor = a; first = clock_of o; bodies = settle_all s.tree (bodies_of (o ∷ os)) } ≡ u = cc in
-    record {
-      none = refl;
-      actor = sym (ap (λ (v : Update). v.actor) q);
-      some = omega arith;
-      bodies = sym (ap (λ (v : Update). v.bodies) q);
-      first = λ e g. sym (ap (λ (v : Update). v.first) q) ∙ first_clock o os e g;
-      count = sym (ap (λ (v : Update). length v.bodies) q) ∙ settle_length s.tree (bodies_of (o ∷ os)) ∙ bodies_length (o ∷ os);
-    }
+takes_of s a (o ∷ os) None u p = record {
+  none = refl;
+  actor = cc;
+  some = omega arith;
+  first = λ e g. let q = first_clock o os e g in cc;
+  count = cc (settle_length s.tree (bodies_of (o ∷ os)), bodies_length (o ∷ os));
+}
 
 nothing_left : (s : State) (a : ℕ) (rest : List Op) (gap : Option (ℕ × ℕ)) → rest ≡ [] → taken_rest s a rest gap ≡ Nothing
 nothing_left s a [] gap p = refl
