@@ -1,5 +1,5 @@
 -- What was taken is taken once.
-use Rattle.std.proofs.Common.{◌≡◌, ℕ, zero, suc, ◌+◌, ◌<◌, ◌≤◌, Bool, true, false, cond, nat_lt, List, [], ◌∷◌, length, Option, Some, None, refl, sym, ap, ◌∙◌, arith, ◌==◌}
+use Rattle.std.proofs.Common.{◌≡◌, ℕ, zero, suc, ◌+◌, ◌<◌, ◌≤◌, Bool, true, false, cond, nat_lt, List, [], ◌∷◌, length, Option, Some, None, refl, ap, ◌∙◌, arith, ◌==◌}
 use Rattle.std.specs.Prelude.{slice_get, slice_set}
 use Rattle.std.proofs.lemmas.Bool.{eqb-true, eqb-false, ltb-true, ltb-false}
 use Rattle.std.proofs.lemmas.Bool.Decides.{nat_tests}
@@ -26,7 +26,7 @@ bodies_length (o ∷ os) = ap suc (bodies_length os)
 
 -- operations up to m leave nothing beyond m
 
-kept_none : (b : Bool) (e c : ℕ) (g : Option (ℕ × ℕ)) → cond b g (Some (e, c)) ≡ None → (b ≡ true) × (g ≡ None)
+pub kept_none : (b : Bool) (e c : ℕ) (g : Option (ℕ × ℕ)) → cond b g (Some (e, c)) ≡ None → (b ≡ true) × (g ≡ None)
 kept_none true e c g p = (refl, p)
 kept_none false e c g p = cc
 
@@ -71,7 +71,7 @@ pub record Took (s : State) (a : ℕ) (rest : List Op) (gap : Option (ℕ × ℕ
   pub first : (e : ℕ) → gap_in e rest ≡ None → u.first ≡ e
   pub count : length u.bodies ≡ length rest
 
-first_clock : (o : Op) (os : List Op) (e : ℕ) → gap_in e (o ∷ os) ≡ None → clock_of o ≡ e
+pub first_clock : (o : Op) (os : List Op) (e : ℕ) → gap_in e (o ∷ os) ≡ None → clock_of o ≡ e
 first_clock o os e p = eqb-true (clock_of o) e (kept_none (clock_of o == e) e (clock_of o) (gap_in (e + 1) os) p).0
 
 pub takes_of : (s : State) (a : ℕ) (rest : List Op) (gap : Option (ℕ × ℕ)) (u : Update) → taken_rest s a rest gap ≡ Takes u → Took s a rest gap u

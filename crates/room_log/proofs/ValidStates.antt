@@ -1,15 +1,53 @@
 -- A valid entry leads from a valid state to a valid state.
-use Rattle.std.proofs.Common.{◌≡◌, ℕ, zero, suc, ◌≤◌, ◌==◌, nat_le, ◌&&◌, true, List, [], ◌∷◌, ◌++◌, length, Option, Some, None, refl, subst, length-append, arith}
+use Rattle.std.proofs.Common.{Bool, cond, false, refl, sym, ap, nat_cmp, ◌∙◌, rules, ◌≡◌, ℕ, zero, suc, ◌≤◌, ◌==◌, nat_le, ◌&&◌, true, List, [], ◌∷◌, ◌++◌, length, Option, Some, None, refl, subst, length-append, arith}
 use Rattle.std.specs.Prelude.{slice_get, slice_set}
 use Rattle.std.proofs.Math.ListN.{length-set}
 use Rattle.std.proofs.lemmas.Bool.Decides.{Decides-and, Decides-eqb}
-use Rattle.room_nodes.proofs.Gets.{some_inj}
+use Rattle.std.specs.Cmp.Lexicographic.{slice_cmp}
+use Rattle.std.specs.List.Sorted.{IsStrictlySortedBy}
+use Rattle.std.specs.FinMap.{get, get-from_sorted}
+use Rattle.room_ids.specs.Laws.{IsNodeInRange}
+use Rattle.room_ids.specs.Order.{is_same, node_cmp}
+use Rattle.room_ids.specs.declared.ids.NodeId.{NodeId}
+use Rattle.room_ids.specs.declared.ids.NodeId.TheVariants.{Root}
+use Rattle.room_nodes.specs.declared.nodes.Node.{Node}
+use Rattle.room_nodes.specs.Shallow.{is_shallow_kind}
+use Rattle.room_nodes.specs.Shape.{bare_root, empty_tree}
+use Rattle.room_nodes.specs.Sound.{IsSoundNode}
+use Rattle.room_nodes.proofs.EmptyTree.{formed-empty}
+use Rattle.room_nodes.proofs.Gets.{same, some_inj}
 use Rattle.room_nodes.proofs.Steps.{formed-fold}
 use Rattle.room_steps.specs.Laws.{KeepsShallow, KeepsSound}
-use Rattle.room_log.specs.Log.{Session, State, Entry, Join, Updated, last_from, with_last, with_last_at, after, state_after}
+use Rattle.room_log.specs.Log.{empty_state, Session, State, Entry, Join, Updated, last_from, with_last, with_last_at, after, state_after}
 use Rattle.room_log.specs.Follows.{AreValidSessions, IsNext, IsNextUpdate, IsValidLog, IsValidSession, IsValidState, most, most_actor}
 use Rattle.room_log.specs.Laws.{ValidAfter}
 use Rattle.room_log.proofs.Following.{Decides-le, follows_exactly}
+
+-- the empty state
+
+empty_has : (x : NodeId) (n : Node) → get empty_tree x ≡ Some n → (x ≡ Root) × (n ≡ bare_root)
+empty_has x n e = by_root (is_same x Root) refl (sym (get-from_sorted node_cmp ((Root, bare_root) ∷ []) x tt) ∙ e)
+  where
+    by_root : (b : Bool) → is_same x Root ≡ b → cond b (Some bare_root) None ≡ Some n → (x ≡ Root) × (n ≡ bare_root)
+    by_root true p q = (same x Root p, some_inj n bare_root (sym q))
+    by_root false p q = cc
+
+none_in_order : IsStrictlySortedBy (slice_cmp nat_cmp) []
+unfolding IsStrictlySortedBy
+none_in_order = tt
+
+bare_sound : IsSoundNode bare_root
+bare_sound = record { parent = tt; key = search rules; kind = record { ordered = none_in_order; json = tt } }
+
+valid_empty : IsValidState empty_state
+valid_empty = record {
+  formed = formed-empty;
+  sound = λ x n e. let h = empty_has x n e in (subst IsNodeInRange (sym h.0) tt, subst IsSoundNode (sym h.1) bare_sound);
+  shallow = λ x n e. ap (λ (m : Node). is_shallow_kind m.kind) (empty_has x n e).1;
+  count = omega arith;
+  sessions = tt;
+  actors = omega arith;
+}
 
 -- sessions
 
@@ -77,4 +115,4 @@ valid_all keeps shallows s [] v h = v
 valid_all keeps shallows s (e ∷ es) v h = valid_all keeps shallows (after s e) es (valid_next keeps shallows s e v h.0) h.1
 
 pub valid_after : KeepsSound → KeepsShallow → ValidAfter
-valid_after keeps shallows = record { entry = valid_next keeps shallows; log = valid_all keeps shallows }
+valid_after keeps shallows = record { empty = valid_empty; entry = valid_next keeps shallows; log = valid_all keeps shallows }

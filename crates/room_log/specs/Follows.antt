@@ -15,8 +15,8 @@ most = 9007199254740991
 abbrev pub most_actor : ℕ
 most_actor = 4294967295
 
--- an update of a session: its clocks run on from the session's last, it has an operation, each operation is settled on the
--- tree before it, no value is too deep, and neither the last clock nor the number of updates passes its bound
+-- an update of a session: its clocks run on from the session's last, it has an operation, each operation is settled on
+-- the tree before it, no value is too deep, and neither the last clock nor the number of updates passes its bound
 abbrev pub follows_session : State → Update → Option Session → Bool
 follows_session s u None = false
 follows_session s u (Some session) =
