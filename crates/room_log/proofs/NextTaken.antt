@@ -1,5 +1,5 @@
 -- What is taken of a session's operations follows.
-use Rattle.std.proofs.Common.{◌≡◌, ◌==◌, ◌<◌, ◌≤◌, length, Option, Some, None, ℕ, ◌+◌, Bool, true, false, cond, nat_lt, List, [], ◌∷◌, sym, ap, ◌∙◌, subst, arith}
+use Rattle.std.proofs.Common.{◌≡◌, ◌==◌, ◌<◌, ◌≤◌, ◌+◌, ℕ, nat_lt, Bool, true, false, cond, List, [], ◌∷◌, length, Option, Some, None, sym, ap, ◌∙◌, subst, arith}
 use Rattle.room_nodes.specs.declared.nodes.Op.{Op}
 use Rattle.room_nodes.specs.declared.nodes.Body.{Body}
 use Rattle.room_nodes.specs.Shallow.{AreShallow, AreShallowOps}

@@ -1,5 +1,5 @@
--- A valid entry leads from a valid state to a valid state.
-use Rattle.std.proofs.Common.{Bool, cond, false, refl, sym, ap, nat_cmp, ◌∙◌, rules, ◌≡◌, ℕ, zero, suc, ◌≤◌, ◌==◌, nat_le, ◌&&◌, true, List, [], ◌∷◌, ◌++◌, length, Option, Some, None, refl, subst, length-append, arith}
+-- The empty state is valid, and a valid entry leads from a valid state to a valid state.
+use Rattle.std.proofs.Common.{◌≡◌, ◌≤◌, ◌==◌, ◌&&◌, ℕ, zero, suc, nat_le, nat_cmp, Bool, true, false, cond, List, [], ◌∷◌, ◌++◌, length, length-append, Option, Some, None, refl, sym, ap, ◌∙◌, subst, rules, arith}
 use Rattle.std.specs.Prelude.{slice_get, slice_set}
 use Rattle.std.proofs.Math.ListN.{length-set}
 use Rattle.std.proofs.lemmas.Bool.Decides.{Decides-and, Decides-eqb}
