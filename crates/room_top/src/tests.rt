@@ -43,7 +43,7 @@ fn gives(
     let mut source = MemSource::new(bytes_of(rt, input)?, numbers(rt, fails.0)?);
     let mut sink = MemSink::new(rt.alloc(), numbers(rt, fails.1)?);
     let answer = run::<PlainTree, _, _>(rt.alloc(), words.as_slice(), &mut source, &mut sink);
-    Ok(answer == status && sink.written() == output.as_bytes())
+    Ok(answer == status && sink.written().as_slice() == output.as_bytes())
 }
 
 const FIRST: &str =
@@ -262,7 +262,7 @@ fn takes_an_input_of_the_limit(rt: HostRuntime) -> Result<(), Fail> {
     let mut sink = MemSink::new(rt.alloc(), numbers(&rt, &[])?);
     let answer = run::<PlainTree, _, _>(rt.alloc(), words.as_slice(), &mut source, &mut sink);
     assert_eq!(rt; answer, 0);
-    assert_eq!(rt; sink.written(), &b""[..]);
+    assert_eq!(rt; sink.written().as_slice(), &b""[..]);
     Ok(())
 }
 
@@ -273,7 +273,7 @@ fn stops_at_the_limit(rt: HostRuntime) -> Result<(), Fail> {
     let mut sink = MemSink::new(rt.alloc(), numbers(&rt, &[])?);
     let answer = run::<PlainTree, _, _>(rt.alloc(), words.as_slice(), &mut source, &mut sink);
     assert_eq!(rt; answer, 11);
-    assert_eq!(rt; sink.written(), &b"too long\n"[..]);
+    assert_eq!(rt; sink.written().as_slice(), &b"too long\n"[..]);
     Ok(())
 }
 
