@@ -9,7 +9,7 @@ fn copied<T: Copied + Sound>(alloc: Global, value: &T) -> Result<T, NoMemory> {
     value.copy(alloc)
 }
 
-fn creation(key: Text, kind: Kind) -> Result<Op, Fail> {
+fn creation(key: Text) -> Result<Op, Fail> {
     match Stamp::new(1, 2) {
         Some(stamp) => Ok(Op {
             id: OpId(stamp),
@@ -18,7 +18,7 @@ fn creation(key: Text, kind: Kind) -> Result<Op, Fail> {
                 parent: NodeId::Root,
                 key,
                 replaces: None,
-                kind,
+                kind: Kind::Map,
             },
         }),
         None => Err(Fail::new("no stamp")),
@@ -26,30 +26,37 @@ fn creation(key: Text, kind: Kind) -> Result<Op, Fail> {
 }
 
 #[test]
-fn copies_are_made(rt: HostRuntime) -> Result<(), Fail> {
+fn nodes_are_copied(rt: HostRuntime) -> Result<(), Fail> {
     let alloc = rt.alloc();
     let node = Node {
         parent: NodeId::Root,
         key: Text::from_str(alloc, "k")?,
         depth: 1,
-        kind: Kind::Register(Json::Flag(true)),
+        kind: copied(alloc, &Kind::Register(Json::Flag(true)))?,
     };
-    let Node { key, kind, .. } = copied(alloc, &node)?;
-    let op = creation(key, copied(alloc, &kind)?)?;
-    let Op { id: _, body } = copied(alloc, &op)?;
-    let Change::Op(body) = copied(alloc, &Change::Op(body))? else {
-        return Err(Fail::new("no operation"));
-    };
-    let Body::Create { key, kind, .. } = body else {
-        return Err(Fail::new("no create"));
-    };
-    assert!(rt; matches!(kind, Kind::Register(Json::Flag(true))));
-    let Cell::Slot(_, key) = Cell::Slot(NodeId::Root, key).copy(alloc)? else {
-        return Err(Fail::new("no slot"));
-    };
-    assert_eq!(rt; key.as_str(), "k");
+    let node = copied(alloc, &node)?;
+    assert_eq!(rt; node.key.as_str(), "k");
+    assert!(rt; matches!(node.kind, Kind::Register(Json::Flag(true))));
     steps_are_formed();
     settling_twice_is_once();
+    Ok(())
+}
+
+#[test]
+fn operations_are_copied(rt: HostRuntime) -> Result<(), Fail> {
+    let alloc = rt.alloc();
+    let op = creation(Text::from_str(alloc, "k")?)?;
+    let Op { id: _, body } = copied(alloc, &op)?;
+    let change = copied(alloc, &Change::Op(body))?;
+    assert!(rt; matches!(change, Change::Op(Body::Create { .. })));
+    Ok(())
+}
+
+#[test]
+fn cells_are_copied(rt: HostRuntime) -> Result<(), Fail> {
+    let alloc = rt.alloc();
+    let cell = Cell::Slot(NodeId::Root, Text::from_str(alloc, "k")?);
+    assert!(rt; matches!(cell.copy(alloc)?, Cell::Slot(NodeId::Root, _)));
     Ok(())
 }
 
