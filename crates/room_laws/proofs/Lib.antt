@@ -38,7 +38,7 @@ mod Refusals
 mod Reports
 mod Resumes
 mod Reversed
-mod Runs
+mod RunSteps
 mod Seats
 mod Sends
 mod Sent

@@ -1,10 +1,10 @@
 -- The laws of every run.
-use Rattle.std.specs.Prelude.{◌≡◌, ℕ, ◌+◌, ◌≤◌, ◌==◌, ◌⊎◌, Bool, true, ◌&&◌, ◌||◌, List, [], ◌∷◌, ◌++◌, Option, Some, None, IsOk}
+use Rattle.std.specs.Prelude.{◌≡◌, ℕ, ◌≤◌, ◌==◌, ◌⊎◌, Bool, true, ◌&&◌, ◌||◌, List, [], ◌∷◌, ◌++◌, Some, IsOk}
 use Rattle.room_nodes.specs.Shape.{Nodes}
 use Rattle.room_nodes.specs.Steps.{fold, settle_all}
 use Rattle.room_items.specs.Items.{tree_in, items_of}
 use Rattle.room_log.specs.Log.{State, Update, tree_after, tree_at, last_at, last_of, updates_of}
-use Rattle.room_model.specs.Account.{Account, Batch, actor, pending_bodies, shown}
+use Rattle.room_model.specs.Account.{Batch, actor, pending_bodies, shown}
 use Rattle.room_model.specs.Lines.{Line}
 use Rattle.room_msg.specs.declared.messages.ServerMsg.{ServerMsg}
 use Rattle.room_msg.specs.declared.messages.ServerFrame.TheVariants.{Msgs}
