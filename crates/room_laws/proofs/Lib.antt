@@ -32,6 +32,7 @@ mod Outcomes
 mod OwnFrames
 mod OwnLines
 mod Owns
+mod Patches
 mod Popped
 mod Queues
 mod Refusals
