@@ -17,11 +17,14 @@ mod Edits
 mod Follows
 mod Frame
 mod Frames
+mod Histories
 mod HistoryBounds
 mod Joins
 mod Keep
 mod Leaving
 mod Links
+mod MadeNodes
+mod MadePositions
 mod Maps
 mod Matches
 mod Messages
@@ -38,6 +41,7 @@ mod Queues
 mod Refusals
 mod Reports
 mod Resumes
+mod Reversals
 mod Reversed
 mod RunSteps
 mod Seats

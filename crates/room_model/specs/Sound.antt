@@ -2,6 +2,7 @@
 use Rattle.std.specs.Prelude.{◌≡◌, ◌≢◌, ◌≤◌, ◌<◌, ◌+◌, ℕ, true, List, [], ◌∷◌, length, Option, Some, None, IsUtf8, ⊤}
 use Rattle.std.specs.Ordering.{nat_cmp}
 use Rattle.std.specs.Cmp.Lexicographic.{slice_cmp}
+use Rattle.std.specs.List.{AllByRecursion}
 use Rattle.std.specs.List.Sorted.{IsStrictlySortedBy}
 use Rattle.std.specs.FinMap.{get}
 use Rattle.room_json.specs.Value.{Value, values_of, depth, values_depth}
@@ -44,7 +45,7 @@ pub record IsValidPatch (fs : List (List ℕ × Value)) : Type 0 where
   pub sound : AreSoundMembers fs
   pub shallow : fields_most fs ≤ 50
 
--- changes that go back, and lists of these
+-- changes that go back, and what a history holds
 
 abbrev pub IsValidChange : Change → Type 0
 IsValidChange (OpChange b) = IsSoundBody b × (is_shallow b ≡ true)
@@ -54,18 +55,15 @@ abbrev pub AreValidChanges : List Change → Type 0
 AreValidChanges [] = ⊤
 AreValidChanges (c ∷ cs) = IsValidChange c × AreValidChanges cs
 
-abbrev pub AreValidEntries : List (List Change) → Type 0
-AreValidEntries [] = ⊤
-AreValidEntries (e ∷ es) = AreValidChanges e × AreValidEntries es
-
 abbrev pub changes_or_none : Option (List Change) → List Change
 changes_or_none None = []
 changes_or_none (Some cs) = cs
 
-pub record IsValidHistory (h : History) : Type 0 where
-  pub undo : AreValidEntries h.undo
-  pub redo : AreValidEntries h.redo
-  pub bag : AreValidChanges (changes_or_none h.bag)
+-- all that a history holds
+pub record HoldsOnly (P : List Change → Type 0) (h : History) : Type 0 where
+  pub undo : AllByRecursion P h.undo
+  pub redo : AllByRecursion P h.redo
+  pub bag : P (changes_or_none h.bag)
 
 -- batches: those beyond the last acknowledged clock, and the open one
 
@@ -99,17 +97,11 @@ pub record AreOwn (told : ℕ) (bs : List Batch) (o : Option OpenBatch) : Type 0
 abbrev pub ArePatches : List Change → Type 0
 ArePatches cs = entry_bodies cs ≡ []
 
-abbrev pub AreAllPatches : List (List Change) → Type 0
-AreAllPatches [] = ⊤
-AreAllPatches (e ∷ es) = ArePatches e × AreAllPatches es
-
 pub record MadeNothing (bs : List Batch) (o : Option OpenBatch) (h : History) : Type 0 where
   pub closed : bs ≡ []
   pub bodies : bodies_in o ≡ []
   pub changes : ArePatches (changes_in o)
-  pub undo : AreAllPatches h.undo
-  pub redo : AreAllPatches h.redo
-  pub bag : ArePatches (changes_or_none h.bag)
+  pub history : HoldsOnly ArePatches h
 
 -- a synced client has a tree
 abbrev pub HasTree : Stage → List Batch → Option OpenBatch → History → Option Nodes → Type 0
@@ -148,7 +140,7 @@ pub record IsSound (x : Account) : Type 0 where
   pub number : x.n ≤ most
   pub node : x.node ≤ most + 1
   pub own : AreOwn x.told (issued x) x.batch
-  pub history : IsValidHistory x.history
+  pub history : HoldsOnly AreValidChanges x.history
   pub presence : ArePresences x.me x.others
   pub events : AreValidEvents x.events
   pub parts : AreItems (parts_items x.parts)
