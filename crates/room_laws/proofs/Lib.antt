@@ -13,6 +13,7 @@ mod Commits
 mod Cuts
 mod Dials
 mod Downs
+mod EditMakes
 mod Edits
 mod Follows
 mod Frame
