@@ -53,6 +53,7 @@ mod Serves
 mod Sessions
 mod Settled
 mod Spared
+mod SoundCalls
 mod Speaks
 mod Stops
 mod Strange
@@ -62,5 +63,6 @@ mod Takings
 mod Talks
 mod Undo
 mod Undone
+mod Validity
 mod Welcomes
 mod Whole

@@ -1,5 +1,5 @@
 -- Every account is sound, whatever is done with it.
-use Rattle.std.specs.Prelude.{◌≡◌, ◌≤◌, ℕ, Bool, List, Some, Ok, IsUtf8}
+use Rattle.std.specs.Prelude.{◌≡◌, ◌≤◌, ℕ, Bool, List, [], Some, Ok, IsUtf8}
 use Rattle.room_json.specs.Value.{Value}
 use Rattle.room_json.specs.View.{json_of}
 use Rattle.room_json.specs.Profile.{IsJson, AreSoundMembers}
@@ -12,8 +12,8 @@ use Rattle.room_msg.specs.declared.messages.ServerMsg.{ServerMsg}
 use Rattle.room_msg.specs.declared.messages.ServerMsg.TheVariants as server
 use Rattle.room_log.specs.Follows.{IsKey, most, most_actor}
 use Rattle.room_model.specs.Edits.{Edit}
-use Rattle.room_model.specs.Account.{Account, new_account}
-use Rattle.room_model.specs.Calls.{Done, Way, lost, dialled, edit, batch_begin, batch_end, go_back, pause as pauses, resume as resumes, clear as clears, presence, event, flushed, resent}
+use Rattle.room_model.specs.Account.{Account, new_account, most_bytes}
+use Rattle.room_model.specs.Calls.{Done, Way, lost, dialled, edit, batch_begin, batch_end, go_back, pause as pauses, resume as resumes, clear as clears, presence, event, flushed, resent, presence_size}
 use Rattle.room_model.specs.Comes.{Took, comes}
 use Rattle.room_model.specs.Sound.{IsSound, IsSoundEdit, AreItems, IsValidTree}
 
@@ -30,6 +30,10 @@ IsSoundServerMsg (server.Update seq os) = (seq ≤ most) × AreSoundOps os × Ar
 -- what items spell is valid
 abbrev pub TreesAreValid : Type 0
 TreesAreValid = (vs : List Value) (t : Nodes) → AreItems vs → tree_in vs ≡ Some t → IsValidTree t
+
+-- a presence without members fits into a frame
+abbrev pub EmptyFits : Type 0
+EmptyFits = presence_size [] ≤ most_bytes
 
 -- each call and each message keeps an account sound
 pub record KeepsSound : Type 0 where
