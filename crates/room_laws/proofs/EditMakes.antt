@@ -1,12 +1,10 @@
 -- The operations that a sound edit makes on a valid tree are valid, and its counters stay in their bounds.
-use Rattle.std.proofs.Common.{◌≡◌, ◌≢◌, ◌⊎◌, inl, inr, ◌≤◌, ◌<◌, ◌+◌, ◌-◌, ℕ, zero, suc, Bool, true, false, cond, ◌==◌, ◌||◌, not, nat_le, nat_lt, is_some, List, [], ◌∷◌, ◌++◌, length, Option, Some, None, refl, sym, ap, ◌∙◌, subst, arith}
+use Rattle.std.proofs.Common.{◌≡◌, ◌⊎◌, inl, inr, ◌≤◌, ◌<◌, ◌+◌, ◌-◌, ℕ, Bool, true, false, cond, ◌==◌, ◌||◌, not, nat_le, nat_lt, is_some, List, [], ◌∷◌, length, Option, Some, None, refl, sym, ap, ◌∙◌, subst, arith}
 use Rattle.std.specs.Prelude.{IsUtf8, slice_get, Result, Ok, Err}
-use Rattle.std.specs.Ordering.{nat_cmp}
-use Rattle.std.specs.Cmp.Lexicographic.{slice_cmp}
 use Rattle.std.specs.FinMap.{get, entries}
 use Rattle.std.proofs.Math.Nat.{le-max_left, le-max_right}
 use Rattle.std.proofs.lemmas.Bool.Decides.{nat_tests}
-use Rattle.room_json.specs.Value.{Value, depth}
+use Rattle.room_json.specs.Value.{depth}
 use Rattle.room_json.specs.Fields.{first}
 use Rattle.room_json.specs.Profile.{AreSoundMembers}
 use Rattle.room_ids.specs.Laws.{IsNodeInRange}
@@ -21,10 +19,10 @@ use Rattle.room_nodes.specs.Shallow.{are_shallow}
 use Rattle.room_nodes.specs.Shape.{Nodes, children, child_at, has_field, is_list}
 use Rattle.room_nodes.specs.Sound.{IsSomeInRange}
 use Rattle.room_nodes.proofs.Children.{Child, is_child_of, answer_of, child_at_some}
-use Rattle.room_nodes.proofs.Fitting.{Fits, the_parent}
+use Rattle.room_nodes.proofs.Fitting.{the_parent}
 use Rattle.room_nodes.proofs.Listing.{Has}
 use Rattle.room_nodes.proofs.Places.{children_sorted}
-use Rattle.room_log.specs.Log.{ops_from, bodies_of}
+use Rattle.room_log.specs.Log.{bodies_of}
 use Rattle.room_log.specs.Follows.{most, most_actor}
 use Rattle.room_model.specs.Edits as edits
 use Rattle.room_model.specs.Edits.{Edit, EditFault, Clocks, Made, target, has_edit, indices, below, value_depth, made_depth, fields_most, key_in, key_at, id_in, id_at, inserted_key, moved_key, made_positions, too_long, set_bodies, update_bodies, delete_bodies, remove_bodies, move_bodies, clear_bodies, bodies, set_nodes, made_nodes, spent, made, clocked, placed, removed_child, make_of, make_at, make}
@@ -32,9 +30,9 @@ use Rattle.room_model.specs.Init.{Init, Plain, AnObject, AMap, AList, nodes_in, 
 use Rattle.room_model.specs.Sound.{IsValidTree, AreValidBodies, IsSoundInit, IsSoundEdit}
 use Rattle.room_laws.proofs.Advance.{bodies_again}
 use Rattle.room_laws.proofs.Patches.{Members}
-use Rattle.room_laws.proofs.Reversals.{EachValid, IsValidBody, one_field, both, of_each}
-use Rattle.room_laws.proofs.MadeNodes.{IsMakeable, valid_creates, is_low}
-use Rattle.room_laws.proofs.MadePositions.{ArePositions, IsShort, Kids, pos_utf8, all_short, made_in, got_has, there_at, inserted_pos, moved_pos}
+use Rattle.room_laws.proofs.Reversals.{EachValid, one_field, both, of_each}
+use Rattle.room_laws.proofs.MadeNodes.{valid_creates, is_low}
+use Rattle.room_laws.proofs.MadePositions.{ArePositions, Kids, pos_utf8, all_short, made_in, got_has, there_at, inserted_pos, moved_pos}
 
 -- what a made edit says
 

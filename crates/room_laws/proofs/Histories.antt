@@ -1,8 +1,8 @@
 -- What each entry of a history is, each entry is after a call, where what is noted is that too.
-use Rattle.std.proofs.Common.{◌≡◌, ℕ, zero, suc, List, [], ◌∷◌, ◌++◌, take, drop, Option, Some, None, refl, sym, ap, ◌∙◌, subst}
+use Rattle.std.proofs.Common.{◌≡◌, ℕ, zero, suc, List, [], ◌∷◌, ◌++◌, take, drop, Option, Some, None, refl, subst}
 use Rattle.std.specs.List.{AllByRecursion}
 use Rattle.room_nodes.specs.declared.nodes.Change.{Change}
-use Rattle.room_model.specs.History.{History, empty_history, note, noted, pause, paused_at, resume, resumed_at, clear, emptied, newest, undo_entry, entry_at, redo_entry, undone, redone}
+use Rattle.room_model.specs.History.{History, empty_history, note, noted, pause, paused_at, resume, resumed_at, clear, emptied, newest, entry_at}
 use Rattle.room_model.specs.Calls.{Way, Undo, Redo, entry_of, gone}
 use Rattle.room_model.specs.Sound.{HoldsOnly, changes_or_none}
 

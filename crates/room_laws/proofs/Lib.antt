@@ -53,7 +53,9 @@ mod Serves
 mod Sessions
 mod Settled
 mod Spared
+mod SoundAccounts
 mod SoundCalls
+mod SoundComes
 mod Speaks
 mod Stops
 mod Strange

@@ -1,5 +1,5 @@
 -- The operations that make the nodes of a live value are valid.
-use Rattle.std.proofs.Common.{◌≡◌, ◌≤◌, ◌+◌, ℕ, suc, Bool, true, false, cond, max, nat_le, List, [], ◌∷◌, ◌++◌, Option, Some, None, Less, refl, sym, ap, subst, arith}
+use Rattle.std.proofs.Common.{◌≡◌, ◌≤◌, ◌+◌, ℕ, suc, Bool, true, false, cond, max, nat_le, List, [], ◌++◌, Option, None, Less, refl, sym, ap, subst, arith}
 use Rattle.std.specs.Prelude.{IsUtf8}
 use Rattle.std.specs.Ordering.{nat_cmp}
 use Rattle.std.specs.Cmp.Lexicographic.{slice_cmp}

@@ -1,12 +1,11 @@
 -- The positions that an edit makes are positions, where none is too long.
-use Rattle.std.proofs.Common.{◌≡◌, ◌≢◌, ◌≤◌, ◌<◌, ◌+◌, ◌-◌, ℕ, zero, suc, Bool, true, false, cond, ◌==◌, nat_lt, nat_le, List, [], ◌∷◌, ◌++◌, length, Option, Some, None, Less, T, refl, sym, ap, ◌∙◌, subst, arith, inl, inr}
+use Rattle.std.proofs.Common.{◌≡◌, ◌≤◌, ◌<◌, ◌+◌, ◌-◌, ℕ, zero, suc, Bool, true, false, cond, ◌==◌, nat_lt, List, [], ◌∷◌, ◌++◌, length, Option, Some, None, T, refl, sym, ap, ◌∙◌, subst, arith, inl, inr}
 use Rattle.std.specs.Prelude.{IsUtf8, slice_get}
 use Rattle.std.specs.Ordering.{nat_cmp}
 use Rattle.std.specs.Cmp.Lexicographic.{slice_cmp}
 use Rattle.std.specs.FinMap.{is_sorted}
 use Rattle.std.specs.FinMap.Entries.{below_all}
 use Rattle.std.specs.List.{AllByRecursion}
-use Rattle.std.proofs.lemmas.Bool.{eqb-true}
 use Rattle.std.proofs.lemmas.Bool.Decides.{nat_tests}
 use Rattle.room_ids.specs.Laws.{IsPosUnlessLong}
 use Rattle.room_ids.specs.Position.{IsBelow, is_pos, first as first_position, after as after_position, before as before_position, between as between_positions}
@@ -14,7 +13,7 @@ use Rattle.room_ids.specs.declared.ids.NodeId.{NodeId}
 use Rattle.room_ids.proofs.Makings.{utf8, made_positions as makers}
 use Rattle.room_ids.proofs.Orders.{is_pos-spelled}
 use Rattle.room_nodes.proofs.Listing.{Has, parts as both_parts, less_of}
-use Rattle.room_model.specs.Edits.{too_long, key_at, key_in, id_at, id_in, inserted_key, moved_key}
+use Rattle.room_model.specs.Edits.{too_long, key_at, key_in, inserted_key, moved_key}
 use Rattle.room_model.specs.Init.{Init, Plain, AnObject, AMap, AList, Parts, no_parts, part, Inits, no_inits, init, positions_in, parts_positions, item_positions}
 
 abbrev pub IsShort : List ℕ → Type 0

@@ -1,5 +1,5 @@
 -- Presences: members merged into others, and the patch that takes a patch back.
-use Rattle.std.proofs.Common.{◌≡◌, ◌≤◌, ℕ, Bool, true, false, cond, max, List, [], ◌∷◌, Option, Some, None, Ordering, Less, Equal, Greater, refl, sym, ap, ◌∙◌, subst, arith}
+use Rattle.std.proofs.Common.{◌≡◌, ◌≤◌, ℕ, Bool, true, false, cond, List, [], ◌∷◌, Option, Some, Ordering, Less, Equal, Greater, refl, sym, ap, ◌∙◌, subst, arith}
 use Rattle.std.specs.Prelude.{IsUtf8}
 use Rattle.std.specs.Ordering.{nat_cmp, eq_by_cmp, match_ordering}
 use Rattle.std.specs.Cmp.Lexicographic.{slice_cmp}
@@ -9,7 +9,7 @@ use Rattle.std.specs.BTreeMap.{insert_entry}
 use Rattle.std.specs.FinMap.{find, put}
 use Rattle.std.specs.FinMap.Entries.{by_order}
 use Rattle.std.proofs.Math.Nat.{le-max_left, le-max_right, max-le}
-use Rattle.room_json.specs.Value.{Value, nothing, depth, fields_of, merged}
+use Rattle.room_json.specs.Value.{Value, depth, fields_of, merged}
 use Rattle.room_json.specs.Profile.{IsJson, HaveJson, AreSoundMembers}
 use Rattle.room_nodes.specs.Ordered.{AreOrdered}
 use Rattle.room_nodes.specs.Steps.{with_fields}

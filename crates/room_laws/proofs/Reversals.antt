@@ -1,5 +1,5 @@
 -- What takes sound operations back, on a valid tree, is valid.
-use Rattle.std.proofs.Common.{◌≡◌, ◌≤◌, ℕ, Bool, true, false, cond, ◌&&◌, nat_le, List, [], ◌∷◌, ◌++◌, map, Option, Some, None, Less, refl, sym, ap, ◌∙◌, subst}
+use Rattle.std.proofs.Common.{◌≡◌, ℕ, Bool, true, false, cond, ◌&&◌, nat_le, List, [], ◌∷◌, ◌++◌, Option, Some, None, Less, refl, subst}
 use Rattle.std.specs.Prelude.{IsUtf8, ⊤}
 use Rattle.std.specs.Ordering.{nat_cmp, eq_by_cmp}
 use Rattle.std.specs.Cmp.Lexicographic.{slice_cmp}
@@ -17,10 +17,10 @@ use Rattle.room_nodes.specs.declared.nodes.Kind.TheVariants.{Object, List as Lis
 use Rattle.room_nodes.specs.declared.nodes.Body.{Body}
 use Rattle.room_nodes.specs.declared.nodes.Body.TheVariants.{SetKey, Create, Update, Delete, DeleteKey}
 use Rattle.room_nodes.specs.Preorder.{preorder}
-use Rattle.room_nodes.specs.Reversal.{creation, creations, node_restored, child_restored, field_in, field_of_node, slot_or, slot_restored, old_field, old_fields, old_update, gone_or, other_name, other_names, replaced_restored, displaced, key_restored, reversed, reverse, reverse_all}
-use Rattle.room_nodes.specs.Shallow.{are_shallow, is_shallow, is_shallow_kind, IsShallowTree, AreShallow}
+use Rattle.room_nodes.specs.Reversal.{creation, creations, node_restored, child_restored, field_in, field_of_node, slot_or, slot_restored, old_field, old_fields, old_update, gone_or, other_name, other_names, replaced_restored, key_restored, reversed, reverse, reverse_all}
+use Rattle.room_nodes.specs.Shallow.{are_shallow, is_shallow, is_shallow_kind, AreShallow}
 use Rattle.room_nodes.specs.Shape.{Nodes, child_at}
-use Rattle.room_nodes.specs.Sound.{IsSoundBody, AreSoundBodies, IsSoundKind, IsSoundTree}
+use Rattle.room_nodes.specs.Sound.{IsSoundBody, AreSoundBodies, IsSoundKind}
 use Rattle.room_nodes.specs.Steps.{step, is_void, is_under, holds_list}
 use Rattle.room_nodes.proofs.Steps.{formed-step}
 use Rattle.room_steps.specs.Laws.{KeepsSound as StepsKeepSound, KeepsShallow as StepsKeepShallow}

@@ -1,6 +1,6 @@
 -- Each call of a client's user keeps its account sound.
-use Rattle.std.proofs.Common.{◌≡◌, ◌≢◌, ◌≤◌, ◌+◌, ℕ, Bool, true, false, cond, ◌&&◌, not, nat_lt, List, [], ◌∷◌, ◌++◌, length, Option, Some, None, is_some, refl, sym, ap, ◌∙◌, subst, arith, append-nil, length-append}
-use Rattle.std.specs.Prelude.{Result, Ok, Err, IsUtf8}
+use Rattle.std.proofs.Common.{◌≡◌, ◌≢◌, ◌≤◌, ◌+◌, ℕ, Bool, true, false, cond, ◌&&◌, not, nat_lt, List, [], ◌∷◌, ◌++◌, length, Option, Some, None, is_some, refl, sym, ◌∙◌, subst, arith, append-nil, length-append}
+use Rattle.std.specs.Prelude.{Ok, Err, IsUtf8}
 use Rattle.std.specs.FinMap.{get, get-empty}
 use Rattle.std.specs.Ordering.{nat_cmp}
 use Rattle.std.specs.List.Sorted.{IsStrictlySortedBy}
@@ -17,17 +17,17 @@ use Rattle.room_steps.specs.Laws.{KeepsSound as StepsKeepSound, KeepsShallow as 
 use Rattle.room_msg.specs.declared.messages.Resume.{Resume}
 use Rattle.room_log.specs.Log.{ops_from, bodies_of}
 use Rattle.room_log.specs.Follows.{most, most_actor}
-use Rattle.room_model.specs.Edits.{Edit, Made, make, spent, fields_most}
+use Rattle.room_model.specs.Edits.{Edit, Made, spent, fields_most}
 use Rattle.room_model.specs.History.{History, note, pause as pause_history, resume as resume_history, clear as clear_history}
 use Rattle.room_model.specs.Presence.{nobody, kept_names, with_names}
-use Rattle.room_model.specs.Account.{Account, Batch, OpenBatch, Stage, Idle, Dialled, Connected, Synced, new_account, actor, actor_in, issued, last_issued, ends, open_ops, shown, shown_over, clocks, bodies_in, is_on, is_synced, is_some_list, frame_of_ops, frame_of_event, size_of, most_bytes}
+use Rattle.room_model.specs.Account.{Account, Batch, OpenBatch, Stage, Idle, Dialled, Synced, new_account, actor, actor_in, issued, last_issued, shown, shown_over, clocks, bodies_in, is_on, is_synced, is_some_list, frame_of_ops, frame_of_event, size_of, most_bytes}
 use Rattle.room_model.specs.Calls as calls
-use Rattle.room_model.specs.Sound.{AreValidBodies, IsValidPatch, AreValidChanges, HoldsOnly, changes_in, RunsOn, AreOwn, ArePatches, MadeNothing, HasTree, IsSession, IsValidEvent, AreValidEvents, IsSound, IsSoundEdit, IsValidTree}
+use Rattle.room_model.specs.Sound.{AreValidBodies, IsValidPatch, AreValidChanges, HoldsOnly, AreOwn, ArePatches, MadeNothing, HasTree, IsSession, IsValidEvent, AreValidEvents, IsSound, IsSoundEdit, IsValidTree}
 use Rattle.room_laws.specs.Accounts.{EmptyFits}
 use Rattle.room_laws.proofs.ClocksKept.{issues_more}
 use Rattle.room_laws.proofs.EditMakes.{IsMade, made_valid, unspent}
 use Rattle.room_laws.proofs.Histories.{holds_empty, holds_note, holds_pause, holds_resume, holds_clear, holds_entry, holds_gone}
-use Rattle.room_laws.proofs.Open.{ok_is, under, edit_as}
+use Rattle.room_laws.proofs.Open.{ok_is, edit_as}
 use Rattle.room_laws.proofs.Patches.{valid_merged, valid_back}
 use Rattle.room_laws.proofs.Reversals.{valid_append, valid_reverse_all}
 use Rattle.room_laws.proofs.Validity.{no_bodies, changes_append, ops_valid, entry_valid, presence_valid, patches_append, patches_back, shown_valid, bare_valid, reversal_valid, own_issued, nothing_issued, remade, restaged, still_shown, called}

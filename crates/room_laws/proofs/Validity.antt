@@ -12,13 +12,13 @@ use Rattle.room_nodes.specs.declared.nodes.Node.{Node}
 use Rattle.room_nodes.specs.declared.nodes.Body.{Body}
 use Rattle.room_nodes.specs.declared.nodes.Change.{Change}
 use Rattle.room_nodes.specs.declared.nodes.Change.TheVariants.{Op as OpChange, Presence as PresenceChange}
-use Rattle.room_nodes.specs.Reversal.{reverse, reverse_all}
+use Rattle.room_nodes.specs.Reversal.{reverse}
 use Rattle.room_nodes.specs.Shallow.{is_shallow_kind}
 use Rattle.room_nodes.specs.Shape.{Nodes, empty_tree, bare_root}
 use Rattle.room_nodes.specs.Sound.{IsSoundNode}
 use Rattle.room_nodes.specs.Steps.{step, fold}
 use Rattle.room_nodes.proofs.EmptyTree.{formed-empty}
-use Rattle.room_nodes.proofs.Gets.{same, some_inj}
+use Rattle.room_nodes.proofs.Gets.{same}
 use Rattle.room_nodes.proofs.Steps.{formed-fold}
 use Rattle.room_steps.specs.Laws.{KeepsSound as StepsKeepSound, KeepsShallow as StepsKeepShallow}
 use Rattle.room_log.specs.Follows.{most}
@@ -26,11 +26,11 @@ use Rattle.room_model.specs.History.{History}
 use Rattle.room_model.specs.Presence.{back_of}
 use Rattle.room_model.specs.Account.{Account, Batch, OpenBatch, Stage, Synced, issued, ends, last_clock, last_issued, rest_of, beyond, all_bodies, bodies_in, pending_bodies, shown, shown_over, most_bytes}
 use Rattle.room_model.specs.Calls.{op_change, entry_bodies, entry_presence, entry_reversal, tree_or_bare, issues_of, batch_of, presence_size}
-use Rattle.room_model.specs.Sound.{IsValidTree, AreValidBodies, IsValidPatch, IsValidChange, AreValidChanges, HoldsOnly, RunsOn, AreValidBatches, changes_in, AreOwn, ArePatches, MadeNothing, HasTree, ArePresences, IsSound}
-use Rattle.room_laws.proofs.ClockRuns.{ends-append, ends_beyond, runs_beyond, beyond-append}
+use Rattle.room_model.specs.Sound.{IsValidTree, AreValidBodies, IsValidPatch, AreValidChanges, HoldsOnly, RunsOn, AreValidBatches, AreOwn, ArePatches, MadeNothing, HasTree, IsSound}
+use Rattle.room_laws.proofs.ClockRuns.{ends-append, ends_beyond, runs_beyond}
 use Rattle.room_laws.proofs.Open.{entry-append}
 use Rattle.room_laws.proofs.Patches.{valid_merged, valid_back}
-use Rattle.room_laws.proofs.Reversals.{IsValidBody, EachValid, each_of, of_each, valid_append, valid_reverse, valid_step}
+use Rattle.room_laws.proofs.Reversals.{EachValid, each_of, of_each, valid_append, valid_reverse, valid_step}
 
 some_is : {A : Type 0} (x y : A) → Some x ≡ Some y → x ≡ y
 some_is x y p = cc

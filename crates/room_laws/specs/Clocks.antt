@@ -1,10 +1,10 @@
 -- The clocks of a client's batches.
-use Rattle.std.specs.Prelude.{◌≡◌, ◌<◌, ◌+◌, ℕ, Bool, List, [], ◌∷◌, length, Some, Ok}
+use Rattle.std.specs.Prelude.{◌≡◌, ℕ, Bool, List, Some, Ok}
 use Rattle.room_json.specs.Value.{Value}
 use Rattle.room_json.specs.declared.tree.Json.{Json}
 use Rattle.room_msg.specs.declared.messages.ServerMsg.{ServerMsg}
 use Rattle.room_model.specs.Edits.{Edit}
-use Rattle.room_model.specs.Account.{Account, Batch, new_account, issued}
+use Rattle.room_model.specs.Account.{Account, new_account}
 use Rattle.room_model.specs.Calls.{Done, Way, lost, dialled, edit, batch_begin, batch_end, go_back, pause as pauses, resume as resumes, clear as clears, presence, event, flushed, resent}
 use Rattle.room_model.specs.Comes.{Took, comes}
 use Rattle.room_model.specs.Sound.{ClocksRunOn}
