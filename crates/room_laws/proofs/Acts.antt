@@ -1,26 +1,22 @@
 -- What a message of a session does.
-use Rattle.std.proofs.Common.{◌≡◌, ℤ, ℕ, zero, suc, ◌+◌, ◌<◌, ◌≤◌, ◌⊎◌, inl, inr, Bool, true, false, cond, ◌==◌, List, [], ◌∷◌, ◌++◌, length, map, refl, sym, ap, ◌∙◌, subst, append-nil, append_assoc, ⊎_elim, pos, negsuc}
+use Rattle.std.proofs.Common.{◌≡◌, ℕ, ◌<◌, ◌⊎◌, inl, inr, Bool, true, false, cond, ◌==◌, List, [], ◌∷◌, ◌++◌, length, refl, sym, ap, ◌∙◌, subst, append-nil}
 use Rattle.std.specs.Prelude.{Option, Some, None, is_some}
 use Rattle.std.proofs.lemmas.Bool.{cases_eq, eq-eqb, ne_eqb}
-use Rattle.std.specs.FinMap.{FinMap, get, insert, entries}
-use Rattle.std.specs.Ordering.{nat_cmp}
+use Rattle.std.specs.FinMap.{get, insert}
 use Rattle.room_json.specs.Value.{Value}
-use Rattle.room_json.specs.declared.tree.Json.{Json}
 use Rattle.room_items.specs.Items.{items_of}
-use Rattle.room_msg.specs.declared.messages.ServerMsg.{ServerMsg}
 use Rattle.room_msg.specs.declared.messages.ServerMsg.TheVariants as server
-use Rattle.room_log.specs.Log.{State, last_of, updates_of}
-use Rattle.room_model.specs.Server.{Server, Down, Message, Pong, Link, Up, has_session, holds, is_actor, with_links, fetched_at, part_sends, parts_of, to_others, to_each, presence_sends}
+use Rattle.room_log.specs.Log.{State, last_of}
+use Rattle.room_model.specs.Server.{Server, Down, Message, Link, Up, with_links, part_sends, parts_of}
 use Rattle.room_model.specs.World
 use Rattle.room_model.specs.World.{Conn, Seat, Host, Running, Fuse, state_in, links_of, deliver}
-use Rattle.room_model.specs.Run.{Run, seat, account, all_given, IsUndisturbed}
-use Rattle.room_laws.specs.Core.{Core, core, actor}
-use Rattle.room_laws.specs.Queues.{Place, IsOn, Says}
+use Rattle.room_model.specs.Run.{Run, seat, IsUndisturbed}
+use Rattle.room_laws.specs.Core.{actor}
 use Rattle.room_laws.specs.Invariant
-use Rattle.room_laws.proofs.Maps.{mine, passes, to_each_of, to_others_same, to_others_other, deliver_there, get_same, get_other, conn_same, conn_other}
+use Rattle.room_laws.proofs.Maps.{mine, deliver_there, get_same, get_other, conn_same, conn_other}
 use Rattle.room_laws.proofs.Served.{fed}
-use Rattle.room_laws.proofs.Calm.{ups_after, SaidTo, passes_said, Same, Left, Fetched, Calmly, calm, Sessionless, part_msgs}
-use Rattle.room_laws.proofs.Leaving.{delivered, ups_passed}
+use Rattle.room_laws.proofs.Calm.{ups_after, SaidTo, Same, Left, Fetched, calm, part_msgs}
+use Rattle.room_laws.proofs.Leaving.{delivered}
 
 down_nil : (b : Bool) (d : List Down) → cond b (d ++ []) d ≡ d
 down_nil true d = append-nil d

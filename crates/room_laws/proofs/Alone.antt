@@ -1,6 +1,6 @@
 -- Undoing what a client did restores what it showed.
-use Rattle.std.proofs.Common.{◌≡◌, ℕ, zero, suc, ◌+◌, ◌<◌, ◌≤◌, Bool, true, false, cond, nat_lt, not, ◌&&◌, List, [], ◌∷◌, ◌++◌, length, take, drop, map, refl, sym, ap, ◌∙◌, subst, arith, append-nil, append_assoc}
-use Rattle.std.specs.Prelude.{Option, Some, None, Result, Ok, Err}
+use Rattle.std.proofs.Common.{◌≡◌, ℕ, zero, suc, ◌<◌, ◌≤◌, Bool, true, false, cond, nat_lt, ◌&&◌, List, [], ◌∷◌, ◌++◌, length, take, drop, map, refl, sym, ap, ◌∙◌, subst, arith, append-nil, append_assoc}
+use Rattle.std.specs.Prelude.{Option, Some, None, Ok, Err}
 use Rattle.room_nodes.specs.declared.nodes.Body.{Body}
 use Rattle.room_nodes.specs.declared.nodes.Change.{Change}
 use Rattle.room_nodes.specs.declared.nodes.Change.TheVariants.{Op as OpChange, Presence as PresenceChange}
@@ -9,11 +9,11 @@ use Rattle.room_model.specs.Presence.{with_names, back_of as back_of_presence}
 use Rattle.room_nodes.specs.Shape.{Nodes}
 use Rattle.room_nodes.specs.Steps.{fold, step}
 use Rattle.room_log.specs.Log.{bodies_of}
-use Rattle.room_model.specs.Edits.{Edit, EditFault, Made, make, fields_most}
+use Rattle.room_model.specs.Edits.{Edit, Made, make, fields_most}
 use Rattle.room_nodes.specs.Reversal.{reverse, reverse_all}
 use Rattle.room_model.specs.History
 use Rattle.room_model.specs.History.{History}
-use Rattle.room_model.specs.Account.{Account, Batch, OpenBatch, issued, all_bodies, bodies_in, shown, shown_over, clocks, open_ops, size_of, frame_of_ops, is_some_list}
+use Rattle.room_model.specs.Account.{Account, Batch, OpenBatch, issued, all_bodies, bodies_in, shown, shown_over, clocks, is_some_list}
 use Rattle.room_model.specs.Calls as calls
 use Rattle.room_laws.specs.Back.{in_bag, entries, back_of, open_back, LeadsBack, Leads, Reverses, Undoes, UndoesAlone}
 use Rattle.room_laws.proofs.Settled.{fold-append}

@@ -1,23 +1,19 @@
 -- The server takes the first frame of a connection: what an outcome must keep, whether a fuse fires or not.
-use Rattle.std.proofs.Common.{◌≡◌, ℕ, ◌+◌, ◌<◌, ◌≤◌, ◌⊎◌, inl, inr, Bool, true, false, cond, ◌==◌, List, [], ◌∷◌, ◌++◌, length, map, refl, sym, ap, ◌∙◌, subst, append-nil, append_assoc, ⊎_elim}
+use Rattle.std.proofs.Common.{◌≡◌, ℕ, ◌<◌, ◌⊎◌, inl, inr, Bool, true, false, cond, ◌==◌, List, [], ◌∷◌, ◌++◌, refl, sym, ap, ◌∙◌, subst, append-nil}
 use Rattle.std.specs.Prelude.{Option, Some, None, is_some}
 use Rattle.std.proofs.lemmas.Bool.{cases_eq, eq-eqb, ne_eqb}
-use Rattle.std.specs.FinMap.{FinMap, get, insert, remove}
-use Rattle.std.specs.Ordering.{nat_cmp}
-use Rattle.room_log.specs.Log.{State, Entry, last_of, updates_of}
+use Rattle.std.specs.FinMap.{get}
+use Rattle.room_log.specs.Log.{State, last_of, updates_of}
 use Rattle.room_model.specs.Server
 use Rattle.room_model.specs.Server.{Down, Closed, Link, Up, Served}
-use Rattle.room_model.specs.Lines as lines
 use Rattle.room_model.specs.World
 use Rattle.room_model.specs.World.{Conn, Seat, Host, Running, Fuse, state_in, links_of}
-use Rattle.room_model.specs.Run.{Run, seat, account, with_step, IsUndisturbed}
-use Rattle.room_laws.specs.Core.{Core, core, actor}
+use Rattle.room_model.specs.Run.{Run, seat, with_step}
+use Rattle.room_laws.specs.Core.{actor}
 use Rattle.room_laws.specs.Invariant
-use Rattle.room_laws.proofs.Maps.{mine, get_none, emptied_at, hushed, conn_same, conn_other, get_same, get_other, removed_same}
-use Rattle.room_laws.proofs.Runs.{updates_of-nil}
+use Rattle.room_laws.proofs.Maps.{get_none, emptied_at, hushed, conn_same, conn_other, get_same, get_other, removed_same}
 use Rattle.room_laws.proofs.OwnLines.{keeps_saying}
-use Rattle.room_laws.proofs.Stops.{Stopping, keeps_stopping, own_same, Settings, keeps_settings}
-use Rattle.room_laws.proofs.Calm.{ups_after}
+use Rattle.room_laws.proofs.Stops.{keeps_stopping, own_same, keeps_settings}
 use Rattle.room_laws.proofs.Leaving.{keeps_leaving}
 use Rattle.room_laws.proofs.Acts.{pops}
 

@@ -1,30 +1,21 @@
 -- A client's own calls that send nothing.
-use Rattle.std.proofs.Common.{◌≡◌, ℕ, ◌+◌, ◌<◌, ◌≤◌, ◌⊎◌, inl, inr, Bool, true, false, cond, List, [], ◌∷◌, ◌++◌, length, refl, sym, ap, ◌∙◌, subst, arith, append-nil, ⊎_elim, nat_lt, not, ◌&&◌}
-use Rattle.std.specs.Prelude.{Option, Some, None, is_some, Result, Ok, Err}
+use Rattle.std.proofs.Common.{◌≡◌, ℕ, ◌+◌, ◌<◌, ◌⊎◌, inl, inr, true, false, List, [], ◌∷◌, ◌++◌, length, refl, sym, ap, ◌∙◌, subst, append-nil}
+use Rattle.std.specs.Prelude.{Option, Some, None}
 use Rattle.std.proofs.lemmas.Bool.{cases_eq}
-use Rattle.std.specs.FinMap.{get, insert}
-use Rattle.room_json.specs.Value.{Value, depth, merged}
-use Rattle.room_json.specs.View.{json_of}
-use Rattle.room_json.specs.declared.tree.Json.{Json}
+use Rattle.std.specs.FinMap.{get}
 use Rattle.room_msg.specs.declared.messages.Resume.{Resume}
-use Rattle.room_nodes.specs.Shape.{Nodes}
-use Rattle.room_nodes.specs.declared.nodes.Body.{Body}
-use Rattle.room_nodes.specs.declared.nodes.Change.{Change as Back}
-use Rattle.room_log.specs.Log.{State, Session, Update, Entry, last_of, updates_of, bodies_of, ops_from}
-use Rattle.room_model.specs.Edits.{Edit, EditFault, Made, make, spent, fields_most}
-use Rattle.room_model.specs.Account.{Account, Batch, OpenBatch, Stage, actor_in, ends, clocks, shown, size_of, most_bytes, frame_of_ops, frame_of_event, open_ops, is_some_list, last_issued, is_on}
-use Rattle.room_model.specs.Calls as calls
+use Rattle.room_log.specs.Log.{State, Session, Update, last_of, updates_of}
+use Rattle.room_model.specs.Account.{Batch, actor_in, ends}
 use Rattle.room_model.specs.Server.{Down, Link, Up}
-use Rattle.room_model.specs.World.{World, Conn, Seat, Stepped, state_in, links_of, with_seat, with_account, quiet, issued_by, seated, seated_at, new_seat}
-use Rattle.room_model.specs.Run.{Run, seat, seat_in, account, with_step, issued_of, all_given, IsUndisturbed}
-use Rattle.room_laws.specs.Ledger.{upto}
+use Rattle.room_model.specs.World.{World, Seat, links_of, with_seat, issued_by}
+use Rattle.room_model.specs.Run.{Run, seat, seat_in, with_step, all_given, IsUndisturbed}
 use Rattle.room_laws.specs.Core.{Core, core, issued, actor}
 use Rattle.room_laws.specs.Invariant
 use Rattle.room_laws.proofs.Maps.{get_same, get_other}
 use Rattle.room_laws.proofs.Queues.{order_issue}
 use Rattle.room_laws.proofs.Owns.{issuing, own_issue}
-use Rattle.room_laws.proofs.Keep.{Undisturbed, Mine, Still, Change, changed}
-use Rattle.room_laws.proofs.Runs.{updates_of-nil, issued_own, issued_others}
+use Rattle.room_laws.proofs.Keep.{Undisturbed, changed}
+use Rattle.room_laws.proofs.RunSteps.{updates_of-nil, issued_own, issued_others}
 
 -- A call leaves what the laws read, or issues one batch.
 pub record Issues (x y : Core) (bs : List Batch) : Type 0 where

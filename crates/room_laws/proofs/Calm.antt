@@ -1,27 +1,25 @@
 -- A step of the server that takes nothing into the log and gives no actor.
-use Rattle.std.proofs.Common.{◌≡◌, ℕ, zero, suc, ◌+◌, ◌<◌, ◌≤◌, ◌⊎◌, inl, inr, Bool, true, false, cond, not, List, [], ◌∷◌, ◌++◌, length, map, refl, sym, ap, ◌∙◌, subst, append-nil, append_assoc, ⊎_elim}
+use Rattle.std.proofs.Common.{◌≡◌, ℕ, zero, suc, ◌+◌, ◌<◌, ◌≤◌, ◌⊎◌, inl, inr, Bool, true, false, cond, List, [], ◌∷◌, ◌++◌, length, refl, sym, ap, ◌∙◌, subst, append-nil, append_assoc}
 use Rattle.std.specs.Prelude.{Option, Some, None, is_some, take as front, drop, nat_le}
-use Rattle.std.proofs.lemmas.Bool.{cases_eq, eq-eqb}
+use Rattle.std.proofs.lemmas.Bool.{eq-eqb}
 use Rattle.std.proofs.lemmas.List.{take-append-drop}
-use Rattle.std.specs.FinMap.{FinMap, get, remove, insert}
-use Rattle.std.specs.Ordering.{nat_cmp}
+use Rattle.std.specs.FinMap.{get}
 use Rattle.room_json.specs.Value.{Value}
 use Rattle.room_items.specs.Items.{tree_in, items_of}
 use Rattle.room_msg.specs.declared.messages.Resume.{Resume}
 use Rattle.room_msg.specs.declared.messages.ServerMsg.TheVariants as server
-use Rattle.room_log.specs.Log.{State, Session, Update, last_of, last_after, tree_after, updates_of}
-use Rattle.room_model.specs.Account.{Batch, Part, Stage, Synced, actor_in}
+use Rattle.room_log.specs.Log.{State, Update, last_of, last_after, tree_after, updates_of}
+use Rattle.room_model.specs.Account.{Part, Synced, actor_in}
 use Rattle.room_model.specs.Comes.{other_parts, parts_items}
-use Rattle.room_model.specs.Server.{Server, Down, Message, Closed, Link, Up, has_session, parts_within}
-use Rattle.room_model.specs.World
-use Rattle.room_model.specs.World.{Conn, Seat, Host, Running, Stopped, state_in, links_of, deliver, with_down, is_close}
-use Rattle.room_model.specs.Run.{Run, seat, account, all_given, IsUndisturbed}
-use Rattle.room_laws.specs.Core.{Core, core, actor}
-use Rattle.room_laws.specs.Queues.{Place, IsOn, Says, SaysPart, Waits}
+use Rattle.room_model.specs.Server.{Down, Message, Closed, Link, Up, has_session, parts_within}
+use Rattle.room_model.specs.World.{Conn, state_in, with_down, is_close}
+use Rattle.room_model.specs.Run.{Run, seat, all_given, IsUndisturbed}
+use Rattle.room_laws.specs.Core.{actor}
+use Rattle.room_laws.specs.Queues.{Place, IsOn, Says, Waits}
 use Rattle.room_laws.specs.Invariant
-use Rattle.room_laws.proofs.Maps.{mine, given_all, passes}
+use Rattle.room_laws.proofs.Maps.{given_all, passes}
 use Rattle.room_laws.proofs.Queues.{grown, waits_whole}
-use Rattle.room_laws.proofs.Served.{ServerTurn, served, fed, ClientOf}
+use Rattle.room_laws.proofs.Served.{served, fed}
 use Rattle.room_laws.proofs.Sent.{grown_nil, AllSaid, present_said, present_left, present_closed, present_on}
 use Rattle.room_laws.proofs.Stops.{own_same}
 

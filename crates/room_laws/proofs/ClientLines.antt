@@ -1,5 +1,5 @@
 -- Each line of a client keeps the invariant.
-use Rattle.std.proofs.Common.{◌≡◌, ℕ, ◌⊎◌, inl, inr, List, [], ◌∷◌, ◌++◌, refl, sym, ap, ◌∙◌, subst}
+use Rattle.std.proofs.Common.{◌≡◌, ℕ, inl, List, [], ◌∷◌, refl, sym, ap, ◌∙◌, subst}
 use Rattle.std.specs.Prelude.{Option, Some, None, Result, Ok, Err}
 use Rattle.std.specs.FinMap.{get}
 use Rattle.room_log.specs.Log.{State}
@@ -8,7 +8,7 @@ use Rattle.room_model.specs.Account.{Account}
 use Rattle.room_model.specs.Calls as calls
 use Rattle.room_model.specs.Lines as lines
 use Rattle.room_model.specs.World
-use Rattle.room_model.specs.Run.{Run, seat, seat_in, account, with_step}
+use Rattle.room_model.specs.Run.{Run, seat, seat_in, with_step}
 use Rattle.room_laws.specs.Core.{core}
 use Rattle.room_laws.specs.Invariant
 use Rattle.room_laws.proofs.Calls.{Called}

@@ -1,9 +1,9 @@
 -- Batches whose clocks run on.
-use Rattle.std.proofs.Common.{◌≡◌, ℕ, ◌+◌, ◌-◌, ◌<◌, ◌≤◌, true, false, cond, nat_lt, List, [], ◌∷◌, ◌++◌, length, drop, refl, ap, arith, length-drop, ⊎_elim}
+use Rattle.std.proofs.Common.{◌≡◌, ℕ, ◌+◌, ◌-◌, ◌<◌, ◌≤◌, true, false, cond, nat_lt, List, [], ◌∷◌, ◌++◌, length, drop, refl, sym, ap, ◌∙◌, arith, length-drop, ⊎_elim}
 use Rattle.std.proofs.lemmas.Bool.{cases_lt}
 use Rattle.std.proofs.lemmas.Bool.Decides.{nat_tests}
 use Rattle.room_model.specs.Account.{Batch, last_clock, ends, rest_of, beyond}
-use Rattle.room_laws.specs.Clocks.{RunsOn}
+use Rattle.room_model.specs.Sound.{RunsOn}
 
 abbrev pub upto : ℕ → List Batch → ℕ
 upto c [] = c
@@ -55,3 +55,37 @@ runs_beyond c e (b ∷ bs) h l = ⊎_elim cut (λ m. past m (runs_beyond (c + le
         rw (k, beyond_none (c + length b.bodies) e bs h.more (omega arith)) h.more in
         let whole : RunsOn e (rest_of e b ∷ beyond e bs) = record { first = omega arith; some = omega arith; more = more } in
         rw t whole
+
+upto_later : (c : ℕ) (bs : List Batch) → c ≤ upto c bs
+upto_later c [] = omega arith
+upto_later c (b ∷ bs) = omega (arith, upto_later (c + length b.bodies) bs)
+
+upto_beyond : (c e : ℕ) (bs : List Batch) → RunsOn c bs → c ≤ e → e ≤ upto c bs → upto e (beyond e bs) ≡ upto c bs
+upto_beyond c e [] h l m = omega arith
+upto_beyond c e (b ∷ bs) h l m = ⊎_elim cut (λ n. past n (upto_beyond (c + length b.bodies) e bs h.more n m)) (cases_lt e (c + length b.bodies))
+  where
+    past : c + length b.bodies ≤ e → upto e (beyond e bs) ≡ upto (c + length b.bodies) bs → upto e (beyond e (b ∷ bs)) ≡ upto (c + length b.bodies) bs
+    past n k =
+        let t : nat_lt e (last_clock b) ≡ false = grind (arith, nat_tests) in
+        rw t k
+
+    cut : e < c + length b.bodies → upto e (beyond e (b ∷ bs)) ≡ upto (c + length b.bodies) bs
+    cut n =
+        let t : nat_lt e (last_clock b) ≡ true = grind (arith, nat_tests) in
+        let k : e + length (drop (e + 1 - b.first) b.bodies) ≡ c + length b.bodies = omega (arith, length-drop (e + 1 - b.first) b.bodies) in
+        let whole : upto e (rest_of e b ∷ beyond e bs) ≡ upto (c + length b.bodies) bs =
+        ap (λ ds. upto (e + length (drop (e + 1 - b.first) b.bodies)) ds) (beyond_none (c + length b.bodies) e bs h.more (omega arith)) ∙ ap (λ m. upto m bs) k in
+        rw t whole
+
+-- what is left beyond a clock that was issued ends where the whole ends
+pub ends_beyond : (c e : ℕ) (bs : List Batch) → RunsOn c bs → c ≤ e → e ≤ ends c bs → ends e (beyond e bs) ≡ ends c bs
+ends_beyond c e bs h l m =
+    ends_upto e (beyond e bs) (runs_beyond c e bs h l) ∙ upto_beyond c e bs h l (omega (arith, m, ends_upto c bs h)) ∙ sym (ends_upto c bs h)
+
+pub ends_later : (c : ℕ) (bs : List Batch) → RunsOn c bs → c ≤ ends c bs
+ends_later c bs h = omega (arith, upto_later c bs, ends_upto c bs h)
+
+-- a batch more
+pub ends-append : (c : ℕ) (bs cs : List Batch) → ends c (bs ++ cs) ≡ ends (ends c bs) cs
+ends-append c [] cs = refl
+ends-append c (b ∷ bs) cs = ends-append (last_clock b) bs cs

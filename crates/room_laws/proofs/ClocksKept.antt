@@ -18,7 +18,8 @@ use Rattle.room_model.specs.Account.{Account, Batch, OpenBatch, Part, Stage, Idl
 use Rattle.room_model.specs.Presence.{kept_names}
 use Rattle.room_model.specs.Calls
 use Rattle.room_model.specs.Comes
-use Rattle.room_laws.specs.Clocks.{RunsOn, ClocksRunOn, KeepsClocks}
+use Rattle.room_model.specs.Sound.{RunsOn, ClocksRunOn}
+use Rattle.room_laws.specs.Clocks.{KeepsClocks}
 use Rattle.room_laws.proofs.ClockRuns.{ends_upto, runs-append, beyond-append, runs_beyond}
 use Rattle.room_items.specs.Items.{tree_in}
 
@@ -46,7 +47,7 @@ one_more told sent fresh b h f s =
 no_more : (told : ℕ) (sent fresh : List Batch) → RunsOn told (sent ++ fresh) → RunsOn told (sent ++ (fresh ++ []))
 no_more told sent fresh h = subst (λ bs. RunsOn told (sent ++ bs)) (sym (append-nil fresh)) h
 
-issues_more : (x : Account) (bs : List Body) → ClocksRunOn x → RunsOn x.told (x.sent ++ (x.fresh ++ Calls.issues_of x bs))
+pub issues_more : (x : Account) (bs : List Body) → ClocksRunOn x → RunsOn x.told (x.sent ++ (x.fresh ++ Calls.issues_of x bs))
 issues_more x [] h = no_more x.told x.sent x.fresh h
 issues_more x (b ∷ bs) h = one_more x.told x.sent x.fresh (Calls.batch_of x (b ∷ bs)) h refl (omega arith)
 
@@ -171,7 +172,7 @@ target_keeps x a (Some target) patch h = h
 
 -- a state: its last clock isn't below `told`
 
-second_none : (b : Bool) (f : ℕ × ℕ) (o : Option (ℕ × ℕ)) → cond b (Some f) o ≡ None → (b ≡ false) × (o ≡ None)
+pub second_none : (b : Bool) (f : ℕ × ℕ) (o : Option (ℕ × ℕ)) → cond b (Some f) o ≡ None → (b ≡ false) × (o ≡ None)
 second_none true f o p = cc
 second_none false f o p = (refl, p)
 
@@ -207,7 +208,7 @@ own_later a limit c o os r true own q k p = k c p
 own_later a limit c o os r false true q k p = omega (arith, k (c + 1) p)
 own_later a limit c o os r false false q k p = cc
 
-told_later : (a limit : ℕ) (os : List Op) (r : ℕ) (c : ℕ) → Comes.told_by a limit c os ≡ Ok r → c ≤ r
+pub told_later : (a limit : ℕ) (os : List Op) (r : ℕ) (c : ℕ) → Comes.told_by a limit c os ≡ Ok r → c ≤ r
 told_later a limit [] r c p = let e : c ≡ r = cc in omega arith
 told_later a limit (o ∷ os) r c p = own_later a limit c o os r (not (actor_of o == a)) ((clock_of o == c + 1) && nat_le (clock_of o) limit) refl (told_later a limit os r) p
 

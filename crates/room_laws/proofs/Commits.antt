@@ -1,9 +1,9 @@
 -- An update is committed.
-use Rattle.std.proofs.Common.{◌≡◌, ℕ, zero, suc, ◌+◌, ◌-◌, ◌<◌, ◌≤◌, ◌⊎◌, inl, inr, Bool, true, false, cond, ◌==◌, List, [], ◌∷◌, ◌++◌, length, refl, sym, ap, ◌∙◌, subst, arith, append-nil, append_assoc, length-append, ⊎_elim}
+use Rattle.std.proofs.Common.{◌≡◌, ℕ, zero, suc, ◌+◌, ◌<◌, ◌≤◌, ◌⊎◌, inl, inr, true, cond, ◌==◌, List, [], ◌∷◌, ◌++◌, length, refl, sym, ap, ◌∙◌, subst, arith, append-nil, length-append}
 use Rattle.std.specs.Prelude.{Option, Some, None, is_some, slice_get, slice_set}
 use Rattle.std.proofs.lemmas.Bool.{cases_eq, eq-eqb, ne_eqb}
 use Rattle.std.proofs.lemmas.Option.{slice_get_within, slice_get-get_or}
-use Rattle.std.proofs.lemmas.List.{get_or-set_same, get_or-set_other}
+use Rattle.std.proofs.lemmas.List.{get_or-set_same}
 use Rattle.std.proofs.Math.ListN.{length-set}
 use Rattle.std.specs.FinMap.{FinMap, get, entries}
 use Rattle.std.specs.Ordering.{nat_cmp}
@@ -12,14 +12,13 @@ use Rattle.room_items.specs.Items.{tree_in, items_of}
 use Rattle.room_msg.specs.declared.messages.Resume.{Resume}
 use Rattle.room_msg.specs.declared.messages.ServerMsg.TheVariants as server
 use Rattle.room_nodes.specs.Steps.{settle_all}
-use Rattle.room_log.specs.Log.{State, Session, Update, Entry, Updated, tree_after, last_after, last_from, last_of, last_in, session_of, with_last, with_last_at, updated, updates_of, ops_of}
+use Rattle.room_log.specs.Log.{State, Session, Update, Updated, last_after, last_from, last_of, last_in, session_of, with_last, with_last_at, updated, updates_of, ops_of}
 use Rattle.room_model.specs.Account.{Batch, actor_in}
 use Rattle.room_model.specs.Server.{Server, Down, Message, Link, Up, has_fetched, to_each}
-use Rattle.room_model.specs.World.{World, Conn, Seat, Host, Running, Fuse, state_in, links_of, deliver, stopped}
-use Rattle.room_model.specs.Run.{Run, seat, seat_in, account, all_given, IsUndisturbed}
+use Rattle.room_model.specs.World.{World, Conn, Host, Running, Fuse, state_in, links_of, deliver, stopped}
+use Rattle.room_model.specs.Run.{Run, seat, seat_in, all_given, IsUndisturbed}
 use Rattle.room_laws.specs.Ledger.{Silent}
-use Rattle.room_laws.specs.Core.{Core, core, actor}
-use Rattle.room_laws.specs.Queues.{Place}
+use Rattle.room_laws.specs.Core.{actor}
 use Rattle.room_laws.specs.Invariant
 use Rattle.room_laws.proofs.Advance.{tree_after-append}
 use Rattle.room_laws.proofs.Matches.{length-settle_all}
@@ -27,8 +26,8 @@ use Rattle.room_laws.proofs.Maps.{mine, passes, to_each_of, deliver_there, get_n
 use Rattle.room_laws.proofs.Stops.{keeps_stopping}
 use Rattle.room_laws.proofs.Queues.{order_raise}
 use Rattle.room_laws.proofs.Owns.{own_other, own_next}
-use Rattle.room_laws.proofs.Runs.{updates_of-append, given_before}
-use Rattle.room_laws.proofs.Served.{ServerTurn, served, ClientOf}
+use Rattle.room_laws.proofs.RunSteps.{updates_of-append, given_before}
+use Rattle.room_laws.proofs.Served.{served, ClientOf}
 use Rattle.room_laws.proofs.Sent.{present_news}
 use Rattle.room_laws.proofs.Calm.{ups_after}
 use Rattle.room_laws.proofs.Leaving.{delivered, ups_passed}

@@ -1,19 +1,19 @@
 -- A client notices that its connection is lost.
-use Rattle.std.proofs.Common.{◌≡◌, ℕ, ◌+◌, ◌<◌, ◌≤◌, ◌⊎◌, inl, inr, Bool, true, false, cond, List, [], ◌∷◌, ◌++◌, length, refl, sym, ap, ◌∙◌, subst, arith, append-nil, ⊎_elim}
+use Rattle.std.proofs.Common.{◌≡◌, ℕ, ◌<◌, ◌⊎◌, inl, inr, true, false, List, [], refl, sym, ap, ◌∙◌, subst, ⊎_elim}
 use Rattle.std.specs.Prelude.{Option, Some, None, is_some}
 use Rattle.std.proofs.lemmas.Bool.{cases_eq}
-use Rattle.std.specs.FinMap.{get, insert}
+use Rattle.std.specs.FinMap.{get}
 use Rattle.room_msg.specs.declared.messages.Resume.{Resume}
-use Rattle.room_log.specs.Log.{State, Session, Update, last_of, updates_of}
-use Rattle.room_model.specs.Account.{Account, Batch, Stage, Idle, Synced, actor_in}
-use Rattle.room_model.specs.Server.{Down, Link, Up}
-use Rattle.room_model.specs.World.{World, Host, Conn, Seat, state_in, links_of}
-use Rattle.room_model.specs.Run.{Run, seat, account, all_given, IsUndisturbed}
+use Rattle.room_log.specs.Log.{State, last_of, updates_of}
+use Rattle.room_model.specs.Account.{Batch, Idle, Synced, actor_in}
+use Rattle.room_model.specs.Server.{Link, Up}
+use Rattle.room_model.specs.World.{Host, Conn, Seat, state_in, links_of}
+use Rattle.room_model.specs.Run.{Run, seat, all_given, IsUndisturbed}
 use Rattle.room_laws.specs.Core.{Core, core, actor}
 use Rattle.room_laws.specs.Invariant
 use Rattle.room_laws.proofs.Maps.{cut}
 use Rattle.room_laws.proofs.Owns.{off, own_off}
-use Rattle.room_laws.proofs.Keep.{Undisturbed, Mine, Still, Change, changed, ups_as}
+use Rattle.room_laws.proofs.Keep.{Undisturbed, Mine, Still, changed, ups_as}
 
 pub idle_synced : Idle ≡ Synced → ⊥
 idle_synced e = cc

@@ -1,21 +1,20 @@
 -- A client dials.
-use Rattle.std.proofs.Common.{◌≡◌, ℕ, ◌+◌, ◌<◌, ◌≤◌, ◌⊎◌, inl, inr, Bool, true, false, cond, List, [], ◌∷◌, ◌++◌, length, refl, sym, ap, ◌∙◌, subst, arith, append-nil, ⊎_elim}
+use Rattle.std.proofs.Common.{◌≡◌, ℕ, ◌+◌, ◌<◌, ◌⊎◌, inl, inr, true, false, cond, List, [], ◌∷◌, refl, sym, ap, ◌∙◌, subst, arith, ⊎_elim}
 use Rattle.std.specs.Prelude.{Option, Some, None, is_some}
 use Rattle.std.proofs.lemmas.Bool.{cases_eq}
 use Rattle.std.specs.FinMap.{get, insert}
 use Rattle.room_msg.specs.declared.messages.Resume.{Resume}
-use Rattle.room_log.specs.Log.{State, Session, Update, last_of, updates_of}
-use Rattle.room_model.specs.Account.{Account, Batch, Stage, Dialled, Synced, actor_in}
-use Rattle.room_model.specs.Calls.{hello_of, dialled}
-use Rattle.room_model.specs.Server.{Down, Link, Up, Server, opened_at, opened}
-use Rattle.room_model.specs.World.{World, room, Host, Running, Stopped, Conn, Seat, state_in, links_of, open_conn, opened_host, new_conn, cut_present, with_seat, with_conn, send_up, is_attached, frame_up, dial_seat, quiet, cut_conn}
-use Rattle.room_model.specs.Run.{Run, seat, account, all_given, IsUndisturbed, with_step}
+use Rattle.room_log.specs.Log.{State, last_of, updates_of}
+use Rattle.room_model.specs.Account.{Batch, Dialled, Synced, actor_in}
+use Rattle.room_model.specs.Server.{Link, Up, Server, opened_at}
+use Rattle.room_model.specs.World.{room, Host, Running, Stopped, Conn, Seat, state_in, links_of, opened_host}
+use Rattle.room_model.specs.Run.{Run, seat, all_given, IsUndisturbed}
 use Rattle.room_laws.specs.Core.{Core, core, actor}
 use Rattle.room_laws.specs.Queues.{Place}
 use Rattle.room_laws.specs.Invariant
-use Rattle.room_laws.proofs.Maps.{cut, cut_here, cut_else, cut_there, conn_same, conn_other, get_same, get_other}
+use Rattle.room_laws.proofs.Maps.{cut, get_same, get_other}
 use Rattle.room_laws.proofs.Owns.{off, own_off}
-use Rattle.room_laws.proofs.Keep.{Undisturbed, Mine, Still, Change, changed, ups_as}
+use Rattle.room_laws.proofs.Keep.{Undisturbed, Mine, Still, changed}
 use Rattle.room_laws.proofs.Sessions.{begun_since}
 use Rattle.room_laws.proofs.Cuts.{is_present, ups_idle, ups_any}
 

@@ -1,36 +1,33 @@
 -- What comes down a connection is taken.
-use Rattle.std.proofs.Common.{◌≡◌, ℕ, ◌+◌, ◌<◌, ◌≤◌, ◌⊎◌, inl, inr, Bool, true, false, cond, List, [], ◌∷◌, ◌++◌, length, map, refl, sym, ap, ◌∙◌, subst, arith, append-nil, ⊎_elim}
+use Rattle.std.proofs.Common.{◌≡◌, ℕ, ◌<◌, ◌⊎◌, inl, Bool, true, false, cond, List, [], ◌∷◌, ◌++◌, map, refl, sym, ap, ◌∙◌, subst, append-nil, ⊎_elim}
 use Rattle.std.specs.Prelude.{Option, Some, None, is_some, Result, Ok, Err, codes}
 use Rattle.room_msg.specs.Written.{server_text}
 use Rattle.std.proofs.lemmas.Bool.{cases_eq}
 use Rattle.std.specs.FinMap.{FinMap, get, insert}
 use Rattle.std.specs.Ordering.{nat_cmp}
 use Rattle.room_msg.specs.declared.messages.Resume.{Resume}
-use Rattle.room_msg.specs.declared.messages.ClientMsg.{ClientMsg}
 use Rattle.room_msg.specs.declared.messages.ServerMsg.{ServerMsg}
-use Rattle.room_msg.specs.declared.messages.ServerFrame.TheVariants.{Pong as PongOf, Msgs as ServerMsgsOf}
-use Rattle.room_log.specs.Log.{State, Update, last_of, updates_of}
-use Rattle.room_model.specs.Account.{Account, Batch, actor_in}
+use Rattle.room_log.specs.Log.{State, last_of, updates_of}
+use Rattle.room_model.specs.Account.{actor_in}
 use Rattle.room_model.specs.Calls as calls
 use Rattle.room_model.specs.Comes
-use Rattle.room_model.specs.Server.{Down, Link, Up, Pong, Message, Closed}
+use Rattle.room_model.specs.Server.{Down, Up, Pong, Message, Closed}
 use Rattle.room_model.specs.Lines as lines
-use Rattle.room_model.specs.Notices.{Notice}
 use Rattle.room_model.specs.World
 use Rattle.room_model.specs.Run
 use Rattle.room_model.specs.Run.{Run as ARun, seat, seat_in, account, with_step, all_given, IsUndisturbed}
 use Rattle.room_laws.specs.Core.{Core, core, actor}
-use Rattle.room_laws.specs.Queues.{Place, Says, Waits}
+use Rattle.room_laws.specs.Queues.{Says}
 use Rattle.room_laws.specs.Invariant
 use Rattle.room_laws.proofs.Maps.{cut, conn_same, conn_other, get_same, get_other}
 use Rattle.room_laws.proofs.Keep.{Undisturbed}
 use Rattle.room_laws.proofs.Calls.{seat_same, seat_other}
-use Rattle.room_laws.proofs.Cuts.{CutOff, keeps_cut}
+use Rattle.room_laws.proofs.Cuts.{keeps_cut}
 use Rattle.room_laws.proofs.Comings.{comes_stays}
-use Rattle.room_laws.proofs.Runs.{updates_of-nil}
-use Rattle.room_laws.proofs.Sends.{Turn, Turned, turns, SentUp, sent_up, sent_on}
+use Rattle.room_laws.proofs.RunSteps.{updates_of-nil}
+use Rattle.room_laws.proofs.Sends.{Turn, Turned, turns, sent_up, sent_on}
 use Rattle.room_laws.proofs.Takes.{turned_still}
-use Rattle.room_laws.proofs.Messages.{Taken, takes}
+use Rattle.room_laws.proofs.Messages.{takes}
 use Rattle.room_laws.proofs.OwnLines.{keeps_saying, cut_off_at}
 use Rattle.room_laws.proofs.Strange.{keeps_strange}
 

@@ -1,5 +1,5 @@
 -- Which calls issue a batch, and which leave what the laws read.
-use Rattle.std.proofs.Common.{◌≡◌, ℕ, ◌+◌, ◌<◌, ◌≤◌, ◌⊎◌, inl, inr, Bool, true, false, cond, List, [], ◌∷◌, ◌++◌, length, refl, sym, ap, ◌∙◌, subst, arith, append-nil, nat_lt, not, ◌&&◌}
+use Rattle.std.proofs.Common.{◌≡◌, ℕ, ◌+◌, inl, inr, Bool, true, false, cond, List, [], ◌∷◌, ◌++◌, length, refl, subst, arith, append-nil, nat_lt, not, ◌&&◌}
 use Rattle.std.specs.Prelude.{Option, Some, None, Result, Ok, Err}
 use Rattle.room_json.specs.Value.{Value, depth, merged}
 use Rattle.room_json.specs.View.{json_of}
@@ -9,11 +9,10 @@ use Rattle.room_nodes.specs.declared.nodes.Body.{Body}
 use Rattle.room_nodes.specs.declared.nodes.Change.{Change as Back}
 use Rattle.room_log.specs.Log.{bodies_of, ops_from}
 use Rattle.room_model.specs.Edits.{Edit, EditFault, Made, make, spent, fields_most}
-use Rattle.room_model.specs.Account.{Account, Batch, OpenBatch, actor, clocks, shown, size_of, most_bytes, frame_of_ops, frame_of_event, open_ops, is_some_list, last_issued, is_on}
+use Rattle.room_model.specs.Account.{Account, OpenBatch, actor, clocks, size_of, most_bytes, frame_of_ops, frame_of_event, open_ops, is_some_list, last_issued, is_on}
 use Rattle.room_model.specs.Calls as calls
-use Rattle.room_laws.specs.Core.{Core, core}
-use Rattle.room_laws.proofs.Owns.{issuing}
-use Rattle.room_laws.proofs.Calls.{Called, Issues}
+use Rattle.room_laws.specs.Core.{core}
+use Rattle.room_laws.proofs.Calls.{Called}
 
 under : {A E : Type 0} (b : Bool) (e : E) (x y : A) → cond b (Err e) (Ok x) ≡ Ok y → x ≡ y
 under true e x y p = cc

@@ -1,16 +1,15 @@
 -- What the invariant gives.
-use Rattle.std.proofs.Common.{◌≡◌, ℕ, zero, suc, ◌+◌, ◌-◌, ◌<◌, ◌≤◌, ◌⊎◌, inl, inr, true, false, List, [], ◌∷◌, ◌++◌, length, take, refl, sym, ap, ◌∙◌, subst, arith}
+use Rattle.std.proofs.Common.{◌≡◌, ℕ, zero, suc, ◌+◌, ◌-◌, ◌<◌, ◌≤◌, inl, inr, true, false, List, [], ◌∷◌, ◌++◌, length, take, refl, sym, ap, ◌∙◌, subst, arith}
 use Rattle.std.specs.Prelude.{Option, Some, None, is_some, slice_get}
 use Rattle.std.proofs.lemmas.Option.{slice_get_within}
 use Rattle.room_nodes.specs.Shape.{Nodes}
 use Rattle.room_nodes.specs.Steps.{fold}
 use Rattle.room_msg.specs.declared.messages.Resume.{Resume}
-use Rattle.room_log.specs.Log.{State, Session, Update, tree_after, tree_at, last_at, last_of, last_in, last_after, session_of, updates_of}
-use Rattle.room_model.specs.Account.{Account, Batch, actor_in, shown, shown_over, pending_bodies}
-use Rattle.room_model.specs.World.{state_in}
+use Rattle.room_log.specs.Log.{State, Session, Update, tree_after, tree_at, last_of, last_in, last_after, updates_of}
+use Rattle.room_model.specs.Account.{Batch, actor_in, shown_over, pending_bodies}
 use Rattle.room_model.specs.Run.{Run, account, IsUndisturbed}
 use Rattle.room_laws.specs.Ledger.{Matches}
-use Rattle.room_laws.specs.Core.{Core, core, issued, actor}
+use Rattle.room_laws.specs.Core.{Core, issued, actor}
 use Rattle.room_laws.specs.Invariant
 use Rattle.room_laws.specs.Laws.{Once, ShowsLog, Kept}
 use Rattle.room_laws.proofs.Matches.{Matches-append, last_after_is}

@@ -1,9 +1,9 @@
 -- The server takes the first frame of a connection, whoever sent it.
-use Rattle.std.proofs.Common.{◌≡◌, ℕ, ◌+◌, Bool, true, false, cond, List, [], ◌∷◌, ◌++◌, length, refl, sym, ap, ◌∙◌, subst, append-nil}
+use Rattle.std.proofs.Common.{◌≡◌, ℕ, Bool, true, false, cond, List, [], ◌∷◌, ◌++◌, refl, sym, ap, ◌∙◌, subst, append-nil}
 use Rattle.std.specs.Prelude.{Option, Some, None}
 use Rattle.std.specs.FinMap.{get}
 use Rattle.room_items.specs.Items.{tree_in, items_of}
-use Rattle.room_log.specs.Log.{State, Entry, Updated, Update, tree_after, updated, updates_of}
+use Rattle.room_log.specs.Log.{State, Updated, Update, tree_after, updated, updates_of}
 use Rattle.room_model.specs.Server
 use Rattle.room_model.specs.Server.{Link, Up, Served}
 use Rattle.room_model.specs.World
@@ -13,7 +13,7 @@ use Rattle.room_nodes.specs.Steps
 use Rattle.room_laws.specs.Laws.{ReadsBack}
 use Rattle.room_laws.specs.Invariant
 use Rattle.room_laws.proofs.Advance.{tree_after-append}
-use Rattle.room_laws.proofs.Runs.{updates_of-append}
+use Rattle.room_laws.proofs.RunSteps.{updates_of-append}
 use Rattle.room_laws.proofs.OwnLines.{keeps_saying}
 use Rattle.room_laws.proofs.Answering.{Kept, stops, passed_over}
 use Rattle.room_laws.proofs.Serves.{hello_kept}

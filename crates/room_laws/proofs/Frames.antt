@@ -1,20 +1,17 @@
 -- What the server does with a frame that an undisturbed client sends.
-use Rattle.std.proofs.Common.{◌≡◌, ℤ, ℕ, suc, ◌+◌, ◌==◌, ◌⊎◌, inl, inr, Bool, true, false, cond, not, ◌&&◌, ◌||◌, nat_le, List, [], ◌∷◌, ◌++◌, length, refl, sym, ap, ◌∙◌, subst, append-nil}
-use Rattle.std.specs.Prelude.{Option, Some, None, is_some, Ok, Err, decimal, codes}
+use Rattle.std.proofs.Common.{◌≡◌, ℕ, ◌==◌, true, false, cond, nat_le, List, [], ◌∷◌, ◌++◌, length, refl, ap, ◌∙◌, append-nil}
+use Rattle.std.specs.Prelude.{Option, Some, None, Ok, decimal, codes}
 use Rattle.std.specs.Str.{bytes_eq}
 use Rattle.std.proofs.lemmas.Bool.{eq-eqb}
 use Rattle.std.specs.FinMap.{get}
-use Rattle.room_json.specs.Value.{Value}
-use Rattle.room_json.specs.declared.tree.Json.{Json}
-use Rattle.room_nodes.specs.declared.nodes.Op.{Op}
 use Rattle.room_nodes.specs.declared.nodes.Body.{Body}
 use Rattle.room_msg.specs.declared.messages.Resume.{Resume}
 use Rattle.room_msg.specs.declared.messages.Hello.{Hello}
 use Rattle.room_msg.specs.declared.messages.ClientMsg.{ClientMsg}
 use Rattle.room_msg.specs.declared.messages.ClientMsg.TheVariants as client
 use Rattle.room_msg.specs.declared.messages.ClientFrame.TheVariants as frame
-use Rattle.room_log.specs.Log.{Session, State, Update, session_of, last_of, ops_from}
-use Rattle.room_log.specs.Take.{Taken, take}
+use Rattle.room_log.specs.Log.{Session, session_of, ops_from}
+use Rattle.room_log.specs.Take.{take}
 use Rattle.room_model.specs.Access
 use Rattle.room_model.specs.Access.{may_do}
 use Rattle.room_msg.specs.declared.reason.Reason.TheVariants as reason

@@ -1,23 +1,22 @@
 -- A new session begins.
-use Rattle.std.proofs.Common.{◌≡◌, ℕ, zero, suc, ◌+◌, ◌<◌, ◌≤◌, ◌⊎◌, inl, inr, Bool, true, false, cond, ◌==◌, List, [], ◌∷◌, ◌++◌, length, map, refl, sym, ap, ◌∙◌, subst, arith, append-nil, append_assoc, length-append, ⊎_elim}
+use Rattle.std.proofs.Common.{◌≡◌, ℕ, suc, ◌<◌, ◌≤◌, ◌⊎◌, inl, inr, true, List, [], ◌∷◌, ◌++◌, length, refl, sym, ap, ◌∙◌, subst, arith, append-nil, length-append}
 use Rattle.std.specs.Prelude.{Option, Some, None, is_some}
 use Rattle.std.proofs.lemmas.Bool.{cases_eq, eq-eqb, ne_eqb}
 use Rattle.std.specs.FinMap.{FinMap, get, insert, remove}
 use Rattle.std.specs.Ordering.{nat_cmp}
 use Rattle.room_msg.specs.declared.messages.Resume.{Resume}
-use Rattle.room_msg.specs.declared.messages.Hello.{Hello}
 use Rattle.room_msg.specs.declared.messages.ServerMsg.TheVariants as server
-use Rattle.room_log.specs.Log.{State, Session, Entry, Join, Update, joined, session_of, last_of, updates_of}
+use Rattle.room_log.specs.Log.{State, Session, Join, Update, joined, last_of, updates_of}
 use Rattle.room_model.specs.Server
 use Rattle.room_model.specs.Server.{Down, Message, Closed, Link, Up, Served, has_session}
 use Rattle.room_model.specs.World
 use Rattle.room_model.specs.World.{Conn, Seat, Host, Running, Fuse, state_in, links_of, deliver}
-use Rattle.room_model.specs.Run.{Run, seat, seat_in, account, IsUndisturbed}
-use Rattle.room_laws.specs.Core.{Core, core, actor}
+use Rattle.room_model.specs.Run.{Run, seat, seat_in, IsUndisturbed}
+use Rattle.room_laws.specs.Core.{actor}
 use Rattle.room_laws.specs.Invariant
 use Rattle.room_laws.proofs.Maps.{mine, passes, to_others_same, to_others_other, deliver_there, get_same, get_other, get_none, emptied_at, hushed}
 use Rattle.room_laws.proofs.Stops.{keeps_stopping, own_same}
-use Rattle.room_laws.proofs.Runs.{updates_of-append}
+use Rattle.room_laws.proofs.RunSteps.{updates_of-append}
 use Rattle.room_laws.proofs.Sessions.{last_past}
 use Rattle.room_laws.proofs.Calm.{ups_after}
 use Rattle.room_laws.proofs.Leaving.{delivered, ups_passed}

@@ -1,16 +1,14 @@
 -- A line that changes one client and connections of that client alone.
-use Rattle.std.proofs.Common.{◌≡◌, ℕ, ◌+◌, ◌<◌, ◌≤◌, ◌⊎◌, inl, inr, Bool, true, false, List, [], ◌∷◌, ◌++◌, length, refl, sym, ap, ◌∙◌, subst, arith, ⊎_elim, ap₂}
-use Rattle.std.specs.Prelude.{Option, Some, None, is_some}
-use Rattle.std.proofs.lemmas.Bool.{cases_eq, cases_lt}
-use Rattle.std.specs.FinMap.{get}
+use Rattle.std.proofs.Common.{◌≡◌, ℕ, ◌<◌, ◌≤◌, ◌⊎◌, inl, inr, true, List, length, refl, sym, ap, ◌∙◌, subst, ⊎_elim, ap₂}
+use Rattle.std.specs.Prelude.{Option, Some, None}
+use Rattle.std.proofs.lemmas.Bool.{cases_eq}
 use Rattle.room_msg.specs.declared.messages.Resume.{Resume}
 use Rattle.room_log.specs.Log.{State, Session, Update, last_of, updates_of}
-use Rattle.room_model.specs.Account.{Batch, actor_in, Account}
+use Rattle.room_model.specs.Account.{Batch, actor_in}
 use Rattle.room_model.specs.Server.{Down, Link, Up}
-use Rattle.room_model.specs.World.{World, Conn, Seat, state_in}
+use Rattle.room_model.specs.World.{Conn, Seat, state_in}
 use Rattle.room_model.specs.Run.{Run, seat, account, all_given, IsUndisturbed}
 use Rattle.room_laws.specs.Core.{Core, core, actor}
-use Rattle.room_laws.specs.Queues.{Place}
 use Rattle.room_laws.specs.Invariant
 
 abbrev pub Undisturbed : List (ℕ × Option ℕ) → ℕ → Core → Type 0

@@ -1,22 +1,21 @@
 -- The server closes a connection, or notices that it is gone.
-use Rattle.std.proofs.Common.{◌≡◌, ℕ, ◌+◌, ◌<◌, ◌≤◌, ◌⊎◌, inl, inr, Bool, true, false, cond, List, [], ◌∷◌, ◌++◌, length, map, refl, sym, ap, ◌∙◌, subst, append-nil, append_assoc, ⊎_elim, ◌==◌}
+use Rattle.std.proofs.Common.{◌≡◌, ℕ, ◌<◌, ◌⊎◌, inl, inr, Bool, true, false, cond, List, [], ◌∷◌, ◌++◌, refl, sym, ap, ◌∙◌, subst, append-nil, ⊎_elim, ◌==◌}
 use Rattle.std.specs.Prelude.{Option, Some, None, is_some}
 use Rattle.std.proofs.lemmas.Bool.{cases_eq, eq-eqb, ne_eqb}
-use Rattle.std.specs.FinMap.{FinMap, get, remove, insert}
+use Rattle.std.specs.FinMap.{FinMap, get, remove}
 use Rattle.std.specs.Ordering.{nat_cmp}
 use Rattle.room_msg.specs.declared.messages.ServerMsg.{ServerMsg}
 use Rattle.room_msg.specs.declared.messages.ServerMsg.TheVariants as server
-use Rattle.room_log.specs.Log.{State, last_of, updates_of}
-use Rattle.room_model.specs.Server.{Server, Down, Message, Closed, Link, Up, has_session, left_to, to_others, with_links, gone, gone_at}
+use Rattle.room_log.specs.Log.{State, last_of}
+use Rattle.room_model.specs.Server.{Server, Down, Message, Closed, Link, Up, has_session, left_to, with_links, gone_at}
 use Rattle.room_model.specs.World
 use Rattle.room_model.specs.World.{Conn, Seat, Host, Running, Stopped, Fuse, state_in, links_of, deliver, with_down, is_close}
-use Rattle.room_model.specs.Run.{Run, seat, account, all_given, IsUndisturbed, with_step}
-use Rattle.room_laws.specs.Core.{Core, core, actor}
-use Rattle.room_laws.specs.Queues.{Place, IsOn, Says}
+use Rattle.room_model.specs.Run.{Run, seat, IsUndisturbed, with_step}
+use Rattle.room_laws.specs.Core.{actor}
 use Rattle.room_laws.specs.Invariant
-use Rattle.room_laws.proofs.Maps.{mine, mine-append, given_all, passes, deliver_at, deliver_there, to_others_same, to_others_other, removed_same, removed_other, left_here, left_else, get_same, get_other, conn_same, conn_other}
+use Rattle.room_laws.proofs.Maps.{mine, mine-append, given_all, passes, deliver_at, deliver_there, to_others_same, to_others_other, removed_same, removed_other, left_here, left_else, get_same, get_other}
 use Rattle.room_laws.proofs.Served.{fed}
-use Rattle.room_laws.proofs.Calm.{ups_after, given_fed, SaidTo, passes_said, Same, Left, Fetched, Calmly, calm, Sessionless}
+use Rattle.room_laws.proofs.Calm.{ups_after, given_fed, SaidTo, passes_said, Same, Left, Fetched, calm}
 use Rattle.room_laws.proofs.OwnLines.{keeps_saying}
 
 pub none_some : {A : Type 0} (x : A) → None ≡ Some x → ⊥

@@ -1,17 +1,15 @@
 -- Connections that no client dialled.
-use Rattle.std.proofs.Common.{◌≡◌, ℕ, ◌+◌, ◌<◌, ◌≤◌, ◌⊎◌, inl, inr, Bool, true, false, cond, List, [], ◌∷◌, ◌++◌, length, map, refl, sym, ap, ◌∙◌, subst, arith, append-nil, ⊎_elim}
+use Rattle.std.proofs.Common.{◌≡◌, ℕ, ◌+◌, ◌<◌, ◌≤◌, ◌⊎◌, inl, inr, Bool, true, false, List, [], ◌∷◌, ◌++◌, length, refl, sym, ap, ◌∙◌, subst, arith}
 use Rattle.std.specs.Prelude.{Option, Some, None, is_some}
 use Rattle.std.proofs.lemmas.Bool.{cases_eq}
-use Rattle.std.specs.FinMap.{FinMap, get, insert}
-use Rattle.std.specs.Ordering.{nat_cmp}
+use Rattle.std.specs.FinMap.{get}
 use Rattle.room_msg.specs.Frame.{client_frame_in}
-use Rattle.room_log.specs.Log.{State, Session, Update, last_of, updates_of}
-use Rattle.room_model.specs.Account.{actor_in}
-use Rattle.room_model.specs.Server.{Server, Down, Link, Up}
+use Rattle.room_log.specs.Log.{State, last_of, updates_of}
+use Rattle.room_model.specs.Server.{Link, Up}
 use Rattle.room_model.specs.World
 use Rattle.room_model.specs.World.{Conn, Seat, Host, Running, Stopped, state_in, links_of}
-use Rattle.room_model.specs.Run.{Run, seat, account, all_given, IsUndisturbed, with_step}
-use Rattle.room_laws.specs.Core.{Core, core, actor}
+use Rattle.room_model.specs.Run.{Run, seat, with_step}
+use Rattle.room_laws.specs.Core.{actor}
 use Rattle.room_laws.specs.Invariant
 use Rattle.room_laws.proofs.Maps.{conn_same, conn_other, get_same, get_other}
 use Rattle.room_laws.proofs.Keep.{client_as, ups_as}

@@ -1,12 +1,12 @@
 -- The batches of an actor against the updates of the log.
-use Rattle.std.proofs.Common.{◌≡◌, ℕ, suc, ◌+◌, ◌-◌, ◌≤◌, ◌⊎◌, inl, inr, List, [], ◌∷◌, ◌++◌, length, refl, ap, ◌∙◌, subst, arith}
+use Rattle.std.proofs.Common.{◌≡◌, ℕ, suc, ◌+◌, ◌-◌, ◌≤◌, inl, inr, List, [], ◌∷◌, ◌++◌, length, refl, ap, ◌∙◌, subst, arith}
 use Rattle.std.proofs.lemmas.Bool.{eq-eqb, ne_eqb}
 use Rattle.room_nodes.specs.Shape.{Nodes}
 use Rattle.room_nodes.specs.declared.nodes.Body.{Body}
 use Rattle.room_nodes.specs.Steps.{step, settled_body, fold, settle_all}
-use Rattle.room_log.specs.Log.{Update, tree_after, last_after, last_from}
+use Rattle.room_log.specs.Log.{Update, tree_after, last_after}
 use Rattle.room_model.specs.Account.{Batch, beyond}
-use Rattle.room_laws.specs.Clocks.{RunsOn}
+use Rattle.room_model.specs.Sound.{RunsOn}
 use Rattle.room_laws.specs.Ledger.{Matches, upto, Silent}
 use Rattle.room_laws.proofs.Batches.{beyond_none, beyond_one}
 

@@ -15,8 +15,7 @@ use Rattle.room_msg.specs.declared.messages.ServerMsg.TheVariants as server
 use Rattle.room_log.specs.Log.{bodies_of}
 use Rattle.room_model.specs.Edits.{Edit, EditFault, Made, make, fields_most}
 use Rattle.room_nodes.specs.Reversal.{reverse, reverse_all}
-use Rattle.room_model.specs.History
-use Rattle.room_model.specs.Account.{Account, Batch, OpenBatch, Stage, Idle, Dialled, Connected, Synced, issued, all_bodies, bodies_in, pending_bodies, shown, shown_over, clocks, is_on, is_synced, open_ops, size_of, frame_of_ops, frame_of_event, is_some_list}
+use Rattle.room_model.specs.Account.{Account, Batch, OpenBatch, Stage, Idle, Dialled, Connected, Synced, issued, all_bodies, bodies_in, shown, shown_over, clocks, is_on, open_ops, size_of, frame_of_ops, frame_of_event, is_some_list}
 use Rattle.room_model.specs.Calls as calls
 use Rattle.room_model.specs.Comes
 use Rattle.room_laws.specs.Open.{base, base_over, GoesBack, IsOpenOn, Notes, KeepsOpen, brings_none}

@@ -1,12 +1,12 @@
 -- What is left of a frame's operations.
-use Rattle.std.proofs.Common.{◌≡◌, ℕ, ◌+◌, ◌<◌, ◌≤◌, true, false, nat_lt, List, [], ◌∷◌, length, refl, ap, arith, ◌==◌}
-use Rattle.std.specs.Prelude.{Option, Some, None}
+use Rattle.std.proofs.Common.{◌≡◌, ℕ, ◌+◌, ◌<◌, ◌≤◌, true, false, nat_lt, List, [], ◌∷◌, length, refl, ap, arith}
+use Rattle.std.specs.Prelude.{None}
 use Rattle.std.proofs.lemmas.Bool.{eq-eqb}
 use Rattle.std.proofs.lemmas.Bool.Decides.{nat_tests}
 use Rattle.room_nodes.specs.declared.nodes.Body.{Body}
 use Rattle.room_nodes.specs.Steps.{settle_all}
-use Rattle.room_log.specs.Log.{ops_from, op_of, bodies_of, last_of, State, Update}
-use Rattle.room_log.specs.Take.{Nothing, Takes, rest_beyond, gap_in, taken_rest, take}
+use Rattle.room_log.specs.Log.{ops_from, op_of, bodies_of, last_of, State}
+use Rattle.room_log.specs.Take.{Nothing, Takes, rest_beyond, gap_in, take}
 use Rattle.room_model.specs.Server.{foreign_in}
 
 -- a batch that the log has is dropped

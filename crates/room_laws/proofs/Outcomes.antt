@@ -1,13 +1,12 @@
 -- A commit, a join and a resume, as answers to a frame.
-use Rattle.std.proofs.Common.{◌≡◌, ℕ, suc, ◌+◌, ◌<◌, ◌≤◌, ◌⊎◌, inl, inr, Bool, true, false, cond, ◌==◌, List, [], ◌∷◌, ◌++◌, length, refl, sym, ap, ◌∙◌, subst, append-nil, ⊎_elim}
+use Rattle.std.proofs.Common.{◌≡◌, ℕ, suc, ◌+◌, ◌<◌, ◌⊎◌, inl, inr, true, cond, ◌==◌, List, [], ◌∷◌, length, refl, sym, ap, ◌∙◌, subst, append-nil}
 use Rattle.std.specs.Prelude.{Option, Some, None, is_some}
 use Rattle.std.proofs.lemmas.Bool.{cases_eq, eq-eqb, ne_eqb}
-use Rattle.std.specs.FinMap.{FinMap, get, insert, remove}
-use Rattle.std.specs.Ordering.{nat_cmp}
+use Rattle.std.specs.FinMap.{get, insert}
 use Rattle.room_items.specs.Items.{tree_in, items_of}
 use Rattle.room_msg.specs.declared.messages.Resume.{Resume}
 use Rattle.room_msg.specs.declared.messages.Hello.{Hello}
-use Rattle.room_log.specs.Log.{State, Session, Update, Entry, session_of, last_of, updated}
+use Rattle.room_log.specs.Log.{State, Session, Update, session_of, last_of, updated}
 use Rattle.room_model.specs.Server
 use Rattle.room_model.specs.Server.{Link, Up, Served}
 use Rattle.room_model.specs.World
@@ -20,7 +19,7 @@ use Rattle.room_laws.proofs.Served.{ClientOf}
 use Rattle.room_laws.proofs.Commits.{Next, keeps_commit, keeps_commit_stopped}
 use Rattle.room_laws.proofs.Joins.{keeps_join, keeps_join_stopped}
 use Rattle.room_laws.proofs.Resumes.{keeps_resume}
-use Rattle.room_laws.proofs.Answering.{Kept, quietly, stops, conns_at, there_at, low, is}
+use Rattle.room_laws.proofs.Answering.{Kept, stops, conns_at, there_at, low}
 
 same_given : (a : Option ℕ) (o : Option ℕ) → World.newly_given a a o ≡ []
 same_given None o = refl

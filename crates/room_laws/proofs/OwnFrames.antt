@@ -1,6 +1,6 @@
 -- The frames of an undisturbed client's session.
-use Rattle.std.proofs.Common.{◌≡◌, ℕ, ◌+◌, ◌-◌, ◌<◌, ◌≤◌, ◌⊎◌, inl, inr, Bool, true, false, cond, nat_le, List, [], ◌∷◌, ◌++◌, length, refl, sym, ap, ◌∙◌, subst, arith, append-nil, ⊎_elim}
-use Rattle.std.specs.Prelude.{Option, Some, None, is_some, Ok, Err, codes, decimal}
+use Rattle.std.proofs.Common.{◌≡◌, ℕ, ◌+◌, ◌<◌, Bool, true, false, cond, nat_le, List, [], ◌∷◌, ◌++◌, length, refl, sym, ap, ◌∙◌, subst, arith, ⊎_elim}
+use Rattle.std.specs.Prelude.{Option, Some, None, Ok, Err, codes, decimal}
 use Rattle.std.specs.FinMap.{get}
 use Rattle.room_nodes.specs.declared.nodes.Op.{Op}
 use Rattle.room_items.specs.Items.{tree_in, items_of}
@@ -9,16 +9,14 @@ use Rattle.room_msg.specs.declared.messages.ClientMsg.TheVariants as client
 use Rattle.room_msg.specs.declared.messages.ClientFrame.TheVariants as frame
 use Rattle.room_nodes.specs.Steps.{settle_all}
 use Rattle.room_log.specs.Log.{State, Session, Update, Updated, session_of, last_of, last_in, last_from, updated, ops_from}
-use Rattle.room_log.specs.Take.{Taken, Nothing, Takes, take}
+use Rattle.room_log.specs.Take.{Nothing, Takes, take}
 use Rattle.room_msg.specs.declared.messages.Resume.{Resume}
-use Rattle.room_model.specs.Account.{Batch, actor_in}
+use Rattle.room_model.specs.Account.{actor_in}
 use Rattle.room_model.specs.Server
 use Rattle.room_model.specs.Server.{Link, Up, Served}
-use Rattle.room_model.specs.World
-use Rattle.room_model.specs.World.{Conn, Host, Running, state_in, links_of}
+use Rattle.room_model.specs.World.{Conn, Running, state_in}
 use Rattle.room_model.specs.Run.{Run, seat, IsUndisturbed}
-use Rattle.room_laws.specs.Ledger.{upto}
-use Rattle.room_laws.specs.Core.{Core, core, actor}
+use Rattle.room_laws.specs.Core.{Core, actor}
 use Rattle.room_laws.specs.Queues.{InOrder}
 use Rattle.room_laws.specs.Invariant
 use Rattle.room_laws.proofs.Served.{ClientOf}

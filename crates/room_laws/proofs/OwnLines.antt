@@ -1,9 +1,9 @@
 -- The lines of one client.
-use Rattle.std.proofs.Common.{◌≡◌, ℕ, ◌+◌, ◌<◌, ◌≤◌, ◌⊎◌, inl, inr, Bool, true, false, cond, List, [], ◌∷◌, ◌++◌, length, map, refl, sym, ap, ◌∙◌, subst, arith, append-nil, ⊎_elim}
-use Rattle.std.specs.Prelude.{Option, Some, None, is_some, Result, Ok, Err}
+use Rattle.std.proofs.Common.{◌≡◌, ℕ, ◌+◌, inl, inr, true, cond, List, [], ◌∷◌, ◌++◌, map, refl, sym, ap, ◌∙◌, subst, arith, append-nil, ⊎_elim}
+use Rattle.std.specs.Prelude.{Option, Some, None, is_some}
 use Rattle.std.proofs.lemmas.Bool.{cases_eq}
 use Rattle.std.proofs.lemmas.List.{map-append}
-use Rattle.std.specs.FinMap.{FinMap, get, insert}
+use Rattle.std.specs.FinMap.{FinMap, get}
 use Rattle.std.specs.Ordering.{nat_cmp}
 use Rattle.room_msg.specs.declared.messages.Resume.{Resume}
 use Rattle.room_msg.specs.declared.messages.ClientMsg.{ClientMsg}
@@ -11,25 +11,21 @@ use Rattle.room_log.specs.Log
 use Rattle.room_log.specs.Log.{State, Update, last_of, updates_of}
 use Rattle.room_model.specs.Notices
 use Rattle.room_model.specs.Run
-use Rattle.room_model.specs.Edits.{EditFault}
 use Rattle.room_model.specs.Account.{Account, Batch, Stage, Idle, Dialled, Connected, Synced, actor_in, frame_of}
 use Rattle.room_model.specs.Calls as calls
-use Rattle.room_model.specs.Server.{Down, Link, Up}
-use Rattle.room_model.specs.Lines as lines
+use Rattle.room_model.specs.Server.{Up}
 use Rattle.room_model.specs.World
 use Rattle.room_model.specs.Run.{Run, seat, seat_in, account, with_step, all_given, IsUndisturbed}
 use Rattle.room_laws.specs.Core.{Core, core, actor, issued}
 use Rattle.room_laws.specs.Queues.{IsOn}
 use Rattle.room_laws.specs.Invariant
 use Rattle.room_laws.proofs.Maps.{cut, cut_here, cut_else, cut_there, conn_same, conn_other, get_same, get_other}
-use Rattle.room_laws.proofs.Owns.{off, sent_all}
-use Rattle.room_laws.proofs.Keep.{Undisturbed}
-use Rattle.room_laws.proofs.Calls.{Called, Issues, keeps_call, called_session, seat_same, seat_other}
+use Rattle.room_laws.proofs.Owns.{sent_all}
+use Rattle.room_laws.proofs.Calls.{Called, keeps_call, called_session, seat_same, seat_other}
 use Rattle.room_laws.proofs.Cuts.{CutOff, keeps_cut}
-use Rattle.room_laws.proofs.Dials.{Dialed, keeps_dialed, OpenedHost, opened_at_host}
-use Rattle.room_laws.proofs.Edits.{edit_called, begin_called, end_called, back_called, presence_called, event_called}
-use Rattle.room_laws.proofs.Runs.{updates_of-nil}
-use Rattle.room_laws.proofs.Sends.{Turn, Turned, turns, SentUp, sent_up, sent_on}
+use Rattle.room_laws.proofs.Dials.{Dialed, keeps_dialed, opened_at_host}
+use Rattle.room_laws.proofs.RunSteps.{updates_of-nil}
+use Rattle.room_laws.proofs.Sends.{Turn, Turned, turns, sent_up, sent_on}
 use Rattle.room_laws.proofs.Speaks.{flush_to, flush_core, resent_core, said, flush_says, flush_said, resend_says, resend_said, send_said, send_append, send_fresh, send_issued, Sendable, turned_said, turned_sent}
 
 none_some : {A : Type 0} (x : A) → None ≡ Some x → ⊥

@@ -1,13 +1,13 @@
 -- A client without its connections: what its calls and messages keep.
-use Rattle.std.proofs.Common.{◌≡◌, ℕ, ◌+◌, ◌<◌, ◌≤◌, ◌⊎◌, inl, inr, Bool, true, false, List, [], ◌∷◌, ◌++◌, length, refl, sym, ap, ◌∙◌, subst, arith, append-nil, append_assoc}
+use Rattle.std.proofs.Common.{◌≡◌, ℕ, ◌+◌, ◌<◌, inl, inr, true, false, List, [], ◌∷◌, ◌++◌, length, refl, sym, ap, ◌∙◌, subst, append-nil, append_assoc}
 use Rattle.std.specs.Prelude.{Option, Some, None, is_some}
 use Rattle.room_nodes.specs.Shape.{Nodes}
 use Rattle.room_nodes.specs.declared.nodes.Body.{Body}
 use Rattle.room_nodes.specs.Steps.{fold, settle_all}
 use Rattle.room_msg.specs.declared.messages.Resume.{Resume}
-use Rattle.room_log.specs.Log.{State, Update, tree_after, last_after, last_of}
-use Rattle.room_model.specs.Account.{Batch, Part, Stage, Idle, Dialled, Connected, Synced, ends, beyond, actor_in}
-use Rattle.room_laws.specs.Ledger.{Matches, Ledger, Silent, upto}
+use Rattle.room_log.specs.Log.{State, Update, tree_after}
+use Rattle.room_model.specs.Account.{Batch, Part, Stage, Connected, Synced, ends, beyond, actor_in}
+use Rattle.room_laws.specs.Ledger.{Matches, Silent, upto}
 use Rattle.room_laws.specs.Core.{Core, issued, actor}
 use Rattle.room_laws.specs.Invariant.{Own, Shows}
 use Rattle.room_laws.proofs.Batches.{upto-append, Runs-append, ends_upto}

@@ -1,20 +1,20 @@
 -- What is left of a queue up, once its first frame is taken.
-use Rattle.std.proofs.Common.{◌≡◌, ℕ, ◌+◌, ◌<◌, ◌≤◌, ◌⊎◌, inl, inr, max, Bool, true, false, List, [], ◌∷◌, ◌++◌, length, refl, sym, ap, ◌∙◌, subst, arith}
-use Rattle.std.specs.Prelude.{Option, Some, None, Ok, Err}
+use Rattle.std.proofs.Common.{◌≡◌, ℕ, ◌+◌, ◌<◌, ◌≤◌, ◌⊎◌, inl, inr, max, List, [], ◌∷◌, ◌++◌, length, refl, ap, ◌∙◌, subst, arith}
+use Rattle.std.specs.Prelude.{Ok}
 use Rattle.room_nodes.specs.declared.nodes.Op.{Op}
 use Rattle.room_nodes.specs.declared.nodes.Body
 use Rattle.room_msg.specs.declared.messages.ClientMsg.{ClientMsg}
 use Rattle.room_msg.specs.declared.messages.ClientMsg.TheVariants as client
 use Rattle.room_msg.specs.declared.messages.ClientFrame.TheVariants as frame
 use Rattle.room_nodes.specs.Steps.{settle_all}
-use Rattle.room_log.specs.Log.{State, Update, ops_from, last_of, last_from}
-use Rattle.room_log.specs.Take.{Taken, Nothing, Takes, take}
+use Rattle.room_log.specs.Log.{State, ops_from, last_of}
+use Rattle.room_log.specs.Take.{Nothing, Takes, take}
 use Rattle.room_model.specs.Account.{Batch, last_clock}
 use Rattle.room_model.specs.Server.{Up}
-use Rattle.room_laws.specs.Clocks.{RunsOn}
+use Rattle.room_model.specs.Sound.{RunsOn}
 use Rattle.room_laws.specs.Ledger.{In, upto}
 use Rattle.room_laws.specs.Queues.{InOrder}
-use Rattle.room_laws.proofs.Batches.{Runs-front, Runs-back, old_or_next, upto_above}
+use Rattle.room_laws.proofs.Batches.{Runs-back, old_or_next}
 use Rattle.room_laws.proofs.Ops.{take_old, take_new}
 
 -- a message that isn't one of operations

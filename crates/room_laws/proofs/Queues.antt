@@ -1,19 +1,18 @@
 -- What waits in the two queues of a connection.
-use Rattle.std.proofs.Common.{◌≡◌, ℕ, ◌+◌, ◌<◌, ◌≤◌, ◌⊎◌, inl, inr, max, Bool, true, false, List, [], ◌∷◌, ◌++◌, length, map, refl, sym, ap, ◌∙◌, subst, arith, append_assoc}
-use Rattle.std.specs.Prelude.{Option, Some, None, Ok, Err}
+use Rattle.std.proofs.Common.{◌≡◌, ℕ, ◌+◌, ◌≤◌, inl, max, Bool, true, false, List, [], ◌∷◌, ◌++◌, length, map, refl, sym, ap, ◌∙◌, subst, arith, append_assoc}
+use Rattle.std.specs.Prelude.{Option, Ok, Err}
 use Rattle.room_json.specs.Value.{Value}
 use Rattle.room_msg.specs.declared.messages.Resume.{Resume}
-use Rattle.room_msg.specs.declared.messages.ClientMsg.{ClientMsg}
 use Rattle.room_msg.specs.declared.messages.ClientMsg.TheVariants as client
 use Rattle.room_msg.specs.declared.messages.ClientFrame.TheVariants as frame
 use Rattle.room_msg.specs.declared.messages.ServerMsg.TheVariants as server
-use Rattle.room_log.specs.Log.{State, Update, tree_after, last_after, ops_of, ops_from}
-use Rattle.room_model.specs.Account.{Batch, Part, Stage, Idle, Dialled, Connected, Synced, last_clock, frame_of}
+use Rattle.room_log.specs.Log.{State, Update}
+use Rattle.room_model.specs.Account.{Batch, last_clock, frame_of}
 use Rattle.room_model.specs.Server.{Down, Pong, Message, Closed, Up}
 use Rattle.room_model.specs.World.{frame_up}
-use Rattle.room_laws.specs.Clocks.{RunsOn}
-use Rattle.room_laws.specs.Ledger.{In, upto}
-use Rattle.room_laws.specs.Queues.{Place, IsOn, SaysPart, Says, Waits, InOrder}
+use Rattle.room_model.specs.Sound.{RunsOn}
+use Rattle.room_laws.specs.Ledger.{upto}
+use Rattle.room_laws.specs.Queues.{Place, SaysPart, Says, Waits, InOrder}
 use Rattle.room_laws.proofs.Batches.{upto_above, In-append_left, In-append_right}
 
 -- a place of which the log went on

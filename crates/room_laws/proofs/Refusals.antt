@@ -1,12 +1,11 @@
 -- An undisturbed client refuses nothing.
-use Rattle.std.proofs.Common.{◌≡◌, ℕ, List, [], ◌∷◌, refl, sym, ap, ◌∙◌, subst}
-use Rattle.std.specs.Prelude.{Option, Some, None, Result, Ok, Err, IsOk}
+use Rattle.std.proofs.Common.{◌≡◌, ℕ, List, [], ◌∷◌, refl, sym, ◌∙◌, subst}
+use Rattle.std.specs.Prelude.{Option, Some, Result, Ok, Err, IsOk}
 use Rattle.room_msg.specs.declared.messages.ServerMsg.{ServerMsg}
 use Rattle.room_msg.specs.declared.messages.ServerFrame.TheVariants.{Msgs}
 use Rattle.room_log.specs.Log.{State, last_of, updates_of}
 use Rattle.room_model.specs.Comes
 use Rattle.room_model.specs.Server.{Down, Message}
-use Rattle.room_model.specs.World.{Conn}
 use Rattle.room_model.specs.Run.{Run, seat, account, run, opened, IsUndisturbed}
 use Rattle.room_laws.specs.Laws.{EachTaken}
 use Rattle.room_laws.specs.Core.{core, actor}

@@ -1,7 +1,6 @@
 -- A session goes on at another connection.
-use Rattle.std.proofs.Common.{◌≡◌, ℕ, zero, suc, ◌+◌, ◌<◌, ◌≤◌, ◌⊎◌, inl, inr, Bool, true, false, cond, not, ◌==◌, List, [], ◌∷◌, ◌++◌, length, map, refl, sym, ap, ◌∙◌, subst, arith, append-nil, append_assoc, length-append, ⊎_elim, Ordering, Equal}
-use Rattle.std.specs.Prelude.{Option, Some, None, is_some, slice_get, codes}
-use Rattle.std.specs.Cmp.{nat_cmp_total}
+use Rattle.std.proofs.Common.{◌≡◌, ℕ, zero, suc, ◌<◌, ◌≤◌, ◌⊎◌, inl, inr, Bool, true, false, cond, not, List, [], ◌∷◌, ◌++◌, length, refl, sym, ap, ◌∙◌, subst, arith, ⊎_elim, Equal}
+use Rattle.std.specs.Prelude.{Option, Some, None, is_some, codes}
 use Rattle.std.proofs.lemmas.Bool.{cases_eq, eq-eqb, ne_eqb}
 use Rattle.std.proofs.lemmas.Bool.Decides.{nat_tests}
 use Rattle.std.proofs.lemmas.Option.{slice_get_within}
@@ -9,13 +8,11 @@ use Rattle.std.specs.FinMap.{FinMap, get, insert, remove, entries, get-retain_ke
 use Rattle.std.specs.Ordering.{nat_cmp}
 use Rattle.room_msg.specs.declared.messages.Resume.{Resume}
 use Rattle.room_msg.specs.declared.messages.ServerMsg.TheVariants as server
-use Rattle.room_log.specs.Log.{State, Session, Update, session_of, last_of, updates_of}
+use Rattle.room_log.specs.Log.{State, Session, session_of, last_of, updates_of}
 use Rattle.room_model.specs.Server
 use Rattle.room_model.specs.Server.{Down, Message, Closed, Link, Up, Served, has_session, holds, is_actor, not_held_by, without_actor}
-use Rattle.room_model.specs.World
-use Rattle.room_model.specs.World.{Conn, Seat, Host, Running, Fuse, state_in, links_of, deliver}
-use Rattle.room_model.specs.Run.{Run, seat, account, IsUndisturbed}
-use Rattle.room_laws.specs.Core.{Core, core, actor}
+use Rattle.room_model.specs.World.{Conn, Host, Running, Fuse, state_in, links_of, deliver}
+use Rattle.room_model.specs.Run.{Run, seat, IsUndisturbed}
 use Rattle.room_laws.specs.Invariant
 use Rattle.room_laws.proofs.Maps.{mine, mine-append, passes, to_each_of, to_others_same, to_others_other, deliver_there, get_same, get_other}
 use Rattle.room_laws.proofs.Sessions.{begun_since}

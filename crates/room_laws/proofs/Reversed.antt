@@ -3,7 +3,6 @@ use Rattle.std.proofs.Common.{◌≡◌, ℕ, List, [], ◌∷◌, refl, sym, ap
 use Rattle.std.specs.Prelude.{Option, Some, None, Result, Ok, Err}
 use Rattle.std.specs.FinMap.{get}
 use Rattle.room_nodes.specs.declared.nodes.Change.{Change}
-use Rattle.room_nodes.specs.declared.nodes.Body.{Body}
 use Rattle.room_nodes.specs.Shape.{Nodes}
 use Rattle.room_model.specs.Account.{Account, Batch, OpenBatch, shown}
 use Rattle.room_model.specs.History.{undo_entry}
@@ -12,9 +11,9 @@ use Rattle.room_model.specs.Calls as calls
 use Rattle.room_model.specs.Lines as lines
 use Rattle.room_model.specs.World
 use Rattle.room_model.specs.World.{World, Seat}
-use Rattle.room_model.specs.Run.{Run, run, line, seat_in, account}
+use Rattle.room_model.specs.Run.{run, line, seat_in, account}
 use Rattle.room_laws.specs.Open.{IsOpenOn, GoesBack}
-use Rattle.room_laws.specs.Lines.{AreQuiet, EachReversed}
+use Rattle.room_laws.specs.Lines.{EachReversed}
 use Rattle.room_laws.proofs.Calls.{seat_same}
 use Rattle.room_laws.proofs.Open.{keeps_open, issued_bodies}
 use Rattle.room_laws.proofs.Seats.{Keeps, run_on}

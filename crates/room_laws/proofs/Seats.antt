@@ -1,6 +1,6 @@
 -- What every line keeps of one client's account.
-use Rattle.std.proofs.Common.{◌≡◌, ℕ, ◌+◌, ◌⊎◌, inl, inr, Bool, true, false, cond, List, [], ◌∷◌, ◌++◌, map, refl, sym, ap, ◌∙◌, subst, ⊎_elim}
-use Rattle.std.specs.Prelude.{Option, Some, None, is_some, Result, Ok, Err}
+use Rattle.std.proofs.Common.{◌≡◌, ℕ, ◌+◌, Bool, true, false, cond, List, [], ◌∷◌, map, refl, sym, ap, ◌∙◌, subst, ⊎_elim}
+use Rattle.std.specs.Prelude.{Option, Some, None, Result, Ok, Err}
 use Rattle.std.proofs.lemmas.Bool.{cases_eq}
 use Rattle.std.specs.FinMap.{FinMap, get}
 use Rattle.std.specs.Ordering.{nat_cmp}
@@ -9,7 +9,7 @@ use Rattle.room_json.specs.declared.tree.Json.{Json}
 use Rattle.room_msg.specs.declared.messages.ServerMsg.{ServerMsg}
 use Rattle.room_msg.specs.declared.messages.ClientMsg.{ClientMsg}
 use Rattle.room_log.specs.Log.{State}
-use Rattle.room_model.specs.Account.{Account, new_account}
+use Rattle.room_model.specs.Account.{Account}
 use Rattle.room_model.specs.Edits.{Edit, EditFault}
 use Rattle.room_model.specs.Calls as calls
 use Rattle.room_model.specs.Comes
@@ -18,11 +18,10 @@ use Rattle.room_model.specs.Server.{Down, Pong, Message, Closed, Up, Served}
 use Rattle.room_model.specs.Lines as lines
 use Rattle.room_model.specs.World
 use Rattle.room_model.specs.World.{World, Conn, Seat, Host, Running, Stopped}
-use Rattle.room_model.specs.Run.{Run, seat, seat_in, account, line, run}
+use Rattle.room_model.specs.Run.{Run, seat_in, account, line, run}
 use Rattle.room_laws.specs.Open.{brings_none}
 use Rattle.room_laws.specs.Lines.{ComesQuietly, IsQuiet, AreQuiet}
 use Rattle.room_laws.proofs.Calls.{seat_same, seat_other}
-use Rattle.room_laws.proofs.Maps.{get_same, get_other}
 
 pub record Keeps (P : Account → Type 0) : Type 0 where
   pub edit : (x : Account) (e : Edit) (out : calls.Done) → P x → calls.edit x e ≡ Ok out → P out.account

@@ -1,18 +1,17 @@
 -- A client goes on with its present connection: its account changes, its queue down gets shorter, and frames go up.
-use Rattle.std.proofs.Common.{◌≡◌, ℕ, ◌+◌, ◌<◌, ◌≤◌, ◌⊎◌, inl, inr, Bool, true, false, cond, List, [], ◌∷◌, ◌++◌, length, map, refl, sym, ap, ◌∙◌, subst, arith, append-nil, ⊎_elim}
+use Rattle.std.proofs.Common.{◌≡◌, ℕ, ◌<◌, ◌⊎◌, inl, inr, Bool, true, false, cond, List, [], ◌++◌, refl, sym, ap, ◌∙◌, subst, ⊎_elim}
 use Rattle.std.specs.Prelude.{Option, Some, None, is_some}
 use Rattle.std.proofs.lemmas.Bool.{cases_eq}
-use Rattle.std.specs.FinMap.{get, insert}
-use Rattle.room_msg.specs.declared.messages.Resume.{Resume}
+use Rattle.std.specs.FinMap.{get}
 use Rattle.room_log.specs.Log.{State, Session, Update, last_of, updates_of}
-use Rattle.room_model.specs.Account.{Account, Batch, actor_in}
+use Rattle.room_model.specs.Account.{Batch}
 use Rattle.room_model.specs.Server.{Down, Link, Up}
-use Rattle.room_model.specs.World.{World, Host, Conn, Seat, state_in, links_of, is_attached, with_conn, ups_on, send_up}
-use Rattle.room_model.specs.Run.{Run, seat, account, all_given, IsUndisturbed}
+use Rattle.room_model.specs.World.{World, Host, Conn, Seat, state_in, links_of, is_attached, ups_on, send_up}
+use Rattle.room_model.specs.Run.{Run, seat, IsUndisturbed}
 use Rattle.room_laws.specs.Core.{Core, core, actor}
 use Rattle.room_laws.specs.Invariant
 use Rattle.room_laws.proofs.Maps.{conn_same, conn_other, get_same, get_other}
-use Rattle.room_laws.proofs.Keep.{Undisturbed, Mine, Still, Change, changed, ups_as}
+use Rattle.room_laws.proofs.Keep.{Undisturbed, Mine, Still, changed, ups_as}
 
 abbrev pub sent_on : Conn → Bool → List Up → Conn
 sent_on q attached us = record q { up = cond attached (q.up ++ us) q.up }

@@ -1,22 +1,17 @@
 -- What the server sends, on the connection that it comes to.
-use Rattle.std.proofs.Common.{◌≡◌, ℕ, ◌+◌, ◌<◌, ◌≤◌, ◌⊎◌, inl, inr, Bool, true, false, cond, List, [], ◌∷◌, ◌++◌, length, refl, sym, ap, ◌∙◌, subst, arith, append-nil, append_assoc, ⊎_elim, length-append, take, drop}
-use Rattle.std.specs.Prelude.{Option, Some, None, is_some}
-use Rattle.room_json.specs.Value.{Value}
-use Rattle.room_items.specs.Items.{tree_in, items_of}
+use Rattle.std.proofs.Common.{◌≡◌, ℕ, ◌+◌, inl, inr, Bool, true, false, cond, List, [], ◌∷◌, ◌++◌, length, refl, sym, ap, ◌∙◌, subst, append-nil, ⊎_elim}
+use Rattle.std.specs.Prelude.{Option, Some, None}
 use Rattle.room_msg.specs.declared.messages.Resume.{Resume}
-use Rattle.room_msg.specs.declared.messages.ServerMsg.{ServerMsg}
 use Rattle.room_msg.specs.declared.messages.ServerMsg.TheVariants as server
-use Rattle.room_log.specs.Log.{State, Session, Update, last_of, last_after, tree_after, ops_of}
-use Rattle.room_model.specs.Account.{Batch, Part, Stage, Idle, Dialled, Connected, Synced, actor_in}
-use Rattle.room_model.specs.Comes.{other_parts, parts_items}
-use Rattle.room_model.specs.Server.{Down, Pong, Message, Closed, Link, Up, has_session, has_fetched, parts_within}
+use Rattle.room_log.specs.Log.{State, Session, Update, ops_of}
+use Rattle.room_model.specs.Account.{Stage, Idle, Synced, actor_in}
+use Rattle.room_model.specs.Server.{Down, Message, Closed, Link, has_fetched}
 use Rattle.room_model.specs.Run.{all_given}
-use Rattle.room_laws.specs.Ledger.{Silent}
-use Rattle.room_laws.specs.Queues.{Place, IsOn, Says, Waits, InOrder}
+use Rattle.room_laws.specs.Queues.{Place, IsOn, Says, Waits}
 use Rattle.room_laws.specs.Invariant
 use Rattle.room_laws.proofs.Maps.{passes}
-use Rattle.room_laws.proofs.Queues.{grown, waits_grow, waits_append, waits_whole, order_raise}
-use Rattle.room_laws.proofs.Runs.{given_before}
+use Rattle.room_laws.proofs.Queues.{grown, waits_grow, waits_append, waits_whole}
+use Rattle.room_laws.proofs.RunSteps.{given_before}
 
 pub grown_nil : (p : Place) → grown [] p ≡ p
 grown_nil p = ap (λ (us : List Update). record p { coming = us }) (append-nil p.coming)

@@ -1,19 +1,19 @@
 -- A step of the server.
-use Rattle.std.proofs.Common.{◌≡◌, ℕ, ◌+◌, ◌<◌, ◌≤◌, ◌⊎◌, inl, inr, Bool, true, false, cond, List, [], ◌∷◌, ◌++◌, length, refl, sym, ap, ◌∙◌, subst, arith, append-nil, append_assoc, ⊎_elim}
+use Rattle.std.proofs.Common.{◌≡◌, ℕ, ◌<◌, ◌≤◌, Bool, true, false, cond, List, [], ◌++◌, length, refl, sym, ap, ◌∙◌, subst}
 use Rattle.std.specs.Prelude.{Option, Some, None, is_some}
 use Rattle.std.specs.FinMap.{get}
 use Rattle.room_msg.specs.declared.messages.Resume.{Resume}
-use Rattle.room_log.specs.Log.{State, Session, Update, last_of, updates_of}
-use Rattle.room_model.specs.Account.{Batch, actor_in}
+use Rattle.room_log.specs.Log.{State, Update, last_of, updates_of}
+use Rattle.room_model.specs.Account.{actor_in}
 use Rattle.room_model.specs.Server.{Down, Link, Up}
-use Rattle.room_model.specs.World.{World, Conn, Seat, state_in}
+use Rattle.room_model.specs.World.{Conn, Seat, state_in}
 use Rattle.room_model.specs.Run.{Run, seat, account, all_given, IsUndisturbed}
-use Rattle.room_laws.specs.Core.{Core, core, actor}
+use Rattle.room_laws.specs.Core.{core, actor}
 use Rattle.room_laws.specs.Queues.{Place}
 use Rattle.room_laws.specs.Invariant
 use Rattle.room_laws.proofs.Queues.{grown}
-use Rattle.room_laws.proofs.Keep.{Undisturbed, ups_as, client_as}
-use Rattle.room_laws.proofs.Runs.{given_before, given_all}
+use Rattle.room_laws.proofs.Keep.{ups_as, client_as}
+use Rattle.room_laws.proofs.RunSteps.{given_before, given_all}
 
 -- a connection after the step
 abbrev pub fed : Conn → List Up → List Down → Conn

@@ -1,14 +1,13 @@
 -- Frames of a session that take nothing into the log, and the hello of an undisturbed client.
-use Rattle.std.proofs.Common.{◌≡◌, ℕ, suc, ◌+◌, ◌<◌, ◌≤◌, ◌⊎◌, inl, inr, Bool, true, false, cond, ◌==◌, nat_le, List, [], ◌∷◌, ◌++◌, length, refl, sym, ap, ◌∙◌, subst, arith, append-nil, ⊎_elim}
-use Rattle.std.specs.Prelude.{Option, Some, None, is_some, Ok, Err, codes, decimal}
+use Rattle.std.proofs.Common.{◌≡◌, ℕ, ◌<◌, Bool, true, false, cond, ◌==◌, nat_le, List, [], ◌∷◌, ◌++◌, length, refl, sym, ap, ◌∙◌, subst, arith, append-nil, ⊎_elim}
+use Rattle.std.specs.Prelude.{Option, Some, None, Ok, Err, codes, decimal}
 use Rattle.std.proofs.lemmas.Bool.Decides.{nat_tests}
 use Rattle.std.specs.FinMap.{get}
 use Rattle.room_msg.specs.declared.messages.Resume.{Resume}
-use Rattle.room_msg.specs.declared.messages.Hello.{Hello}
 use Rattle.room_msg.specs.declared.messages.ClientMsg.{ClientMsg}
 use Rattle.room_msg.specs.declared.messages.ClientMsg.TheVariants as client
 use Rattle.room_msg.specs.declared.messages.ClientFrame.TheVariants as frame
-use Rattle.room_log.specs.Log.{State, Session, Entry, Update, session_of, last_of}
+use Rattle.room_log.specs.Log.{State, Update, last_of}
 use Rattle.room_model.specs.Account as Batch
 use Rattle.room_model.specs.Server
 use Rattle.room_model.specs.Server.{Link, Up, Served}
@@ -18,11 +17,11 @@ use Rattle.room_model.specs.Run.{Run, seat, IsUndisturbed}
 use Rattle.room_laws.specs.Core.{actor}
 use Rattle.room_laws.specs.Queues.{InOrder}
 use Rattle.room_laws.specs.Invariant
-use Rattle.room_laws.proofs.Stops.{keeps_settings, Settings}
+use Rattle.room_laws.proofs.Stops.{keeps_settings}
 use Rattle.room_laws.proofs.Acts.{pops}
 use Rattle.room_laws.proofs.Popped.{IsTalk}
-use Rattle.room_laws.proofs.Frames.{joins, resumes, talks}
-use Rattle.room_laws.proofs.Talks.{Reached, talk, talk_all, or_none}
+use Rattle.room_laws.proofs.Frames.{joins, resumes}
+use Rattle.room_laws.proofs.Talks.{Reached, talk_all, or_none}
 use Rattle.room_laws.proofs.Answering.{Kept, stops, low, keeps_shut}
 use Rattle.room_laws.proofs.Outcomes.{joins_kept, resumes_kept}
 

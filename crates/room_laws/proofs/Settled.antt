@@ -1,5 +1,5 @@
 -- Operations that are settled as they are taken lead to the same tree.
-use Rattle.std.proofs.Common.{◌≡◌, ℕ, cond, List, [], ◌∷◌, ◌++◌, refl, sym, ap, ◌∙◌, subst}
+use Rattle.std.proofs.Common.{◌≡◌, cond, List, [], ◌∷◌, ◌++◌, refl, sym, ap, ◌∙◌, subst}
 use Rattle.room_nodes.specs.declared.nodes.Body.{Body}
 use Rattle.room_nodes.specs.Shape.{Nodes, IsFormed}
 use Rattle.room_nodes.specs.Steps.{fold, step, effect, is_void, settled_body, settle_all}

@@ -1,5 +1,5 @@
 -- The closes that answer an undisturbed client's frames.
-use Rattle.std.proofs.Common.{◌≡◌, ℤ, pos, negsuc, ℕ, suc, ◌+◌, ◌<◌, ◌≤◌, ◌==◌, ◌⊎◌, inl, inr, Bool, true, false, cond, ◌&&◌, nat_le, List, [], ◌∷◌, ◌++◌, length, refl, sym, ap, ◌∙◌, subst, arith, ⊎_elim}
+use Rattle.std.proofs.Common.{◌≡◌, ℤ, pos, negsuc, ℕ, suc, ◌+◌, ◌<◌, ◌==◌, ◌⊎◌, inl, inr, Bool, true, false, cond, ◌&&◌, nat_le, List, [], ◌∷◌, ◌++◌, length, refl, sym, ap, ◌∙◌, subst, arith, ⊎_elim}
 use Rattle.std.specs.Prelude.{Option, Some, None, Ok, Err, codes, decimal}
 use Rattle.std.proofs.lemmas.Bool.Decides.{nat_tests}
 use Rattle.std.specs.FinMap.{FinMap, get, entries, remove}
@@ -13,20 +13,19 @@ use Rattle.room_msg.specs.declared.messages.ServerMsg.TheVariants as server
 use Rattle.room_msg.specs.declared.messages.ClientMsg.{ClientMsg}
 use Rattle.room_msg.specs.declared.messages.ClientMsg.TheVariants as client
 use Rattle.room_msg.specs.declared.messages.ClientFrame.TheVariants as frame
-use Rattle.room_log.specs.Log.{State, Session, Update, last_of, session_of, ops_of}
+use Rattle.room_log.specs.Log.{State, Update, last_of, ops_of}
 use Rattle.room_log.specs.Take.{Taken, Nothing, Takes, take}
 use Rattle.room_model.specs.Server
 use Rattle.room_model.specs.Server.{Down, Pong, Message, Closed, Link, Up, Served}
-use Rattle.room_model.specs.World
-use Rattle.room_model.specs.World.{Conn, Host, Running, state_in, links_of, room}
-use Rattle.room_model.specs.Run.{Run, seat, run, opened, IsUndisturbed}
+use Rattle.room_model.specs.World.{Conn, Running, state_in, room}
+use Rattle.room_model.specs.Run.{Run, run, opened, IsUndisturbed}
 use Rattle.room_laws.specs.Laws.{spares, spares_all, EachServed}
 use Rattle.room_laws.specs.Core.{actor}
 use Rattle.room_laws.specs.Queues.{InOrder}
 use Rattle.room_laws.specs.Invariant
 use Rattle.room_laws.proofs.Popped.{IsTalk}
 use Rattle.room_laws.proofs.Frames.{joins, resumes, talks}
-use Rattle.room_laws.proofs.Serves.{ups_of, act_entry}
+use Rattle.room_laws.proofs.Serves.{ups_of}
 use Rattle.room_laws.proofs.OwnFrames.{serve_takes, outcome_of}
 use Rattle.room_laws.proofs.Whole.{stands}
 

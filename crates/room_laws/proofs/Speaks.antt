@@ -1,34 +1,26 @@
 -- A client's frames go up on its present connection.
-use Rattle.std.proofs.Common.{◌≡◌, ℕ, ◌+◌, ◌<◌, ◌≤◌, ◌⊎◌, inl, inr, max, Bool, true, false, cond, List, [], ◌∷◌, ◌++◌, length, map, refl, sym, ap, ◌∙◌, subst, arith, append-nil, append_assoc, ⊎_elim}
+use Rattle.std.proofs.Common.{◌≡◌, ℕ, ◌≤◌, ◌⊎◌, inl, inr, max, Bool, true, false, cond, List, [], ◌∷◌, ◌++◌, map, refl, sym, ap, ◌∙◌, subst, arith, append-nil, append_assoc}
 use Rattle.std.proofs.lemmas.List.{map-append}
 use Rattle.std.specs.Prelude.{Option, Some, None, is_some}
-use Rattle.std.proofs.lemmas.Bool.{cases_eq}
-use Rattle.std.specs.FinMap.{get, insert}
 use Rattle.room_json.specs.Value.{Value}
 use Rattle.room_json.specs.declared.tree.Json.{Json}
 use Rattle.room_msg.specs.declared.messages.Resume.{Resume}
 use Rattle.room_msg.specs.declared.messages.ClientMsg.{ClientMsg}
-use Rattle.room_log.specs.Log.{State, Session, Update, last_of, updates_of}
-use Rattle.room_model.specs.Account.{Account, Batch, Stage, Idle, Dialled, Connected, Synced, actor_in, frame_of, frame_of_event, is_synced}
+use Rattle.room_log.specs.Log.{State, Session, Update, last_of}
+use Rattle.room_model.specs.Account.{Account, Batch, Stage, Idle, Dialled, Connected, Synced, actor_in, frame_of, frame_of_event}
 use Rattle.room_model.specs.Presence.{unsent_members}
 use Rattle.room_model.specs.Calls.{flushed, flush_frames, resent, resend_frames, patch_frames, held}
 use Rattle.room_model.specs.Server.{Down, Link, Up}
-use Rattle.room_model.specs.World.{World, Host, Conn, Seat, state_in, links_of, is_attached, with_conn, with_seat, with_account, send_up, send_present, speaks, quiet, frame_up}
-use Rattle.room_model.specs.Run.{Run, seat, seat_in, account, all_given, IsUndisturbed, with_step}
-use Rattle.room_laws.specs.Clocks.{RunsOn}
+use Rattle.room_model.specs.World.{frame_up}
 use Rattle.room_laws.specs.Ledger.{upto}
 use Rattle.room_laws.specs.Core.{Core, core, issued, actor}
-use Rattle.room_laws.specs.Queues.{Place, IsOn, Waits, InOrder}
+use Rattle.room_laws.specs.Queues.{Place, IsOn, InOrder}
 use Rattle.room_laws.specs.Invariant
 use Rattle.room_laws.proofs.Batches.{upto-append, Runs-back}
-use Rattle.room_laws.proofs.Matches.{Left}
 use Rattle.room_laws.proofs.Queues.{order_append, order_above, frames}
-use Rattle.room_laws.proofs.Owns.{off, sent_all, own_sent, told_is, rest_is}
-use Rattle.room_laws.proofs.Keep.{Undisturbed}
-use Rattle.room_laws.proofs.Calls.{keeps_call, seat_same, seat_other}
+use Rattle.room_laws.proofs.Owns.{sent_all, own_sent, told_is, rest_is}
 use Rattle.room_laws.proofs.Cuts.{ups_idle}
-use Rattle.room_laws.proofs.Runs.{updates_of-nil}
-use Rattle.room_laws.proofs.Sends.{Turn, Turned, turns, SentUp, sent_up, sent_on}
+use Rattle.room_laws.proofs.Sends.{Turned}
 
 -- what a flush and a resend leave, by stage
 

@@ -1,27 +1,24 @@
 -- The server stops: queues and attachments are emptied.
-use Rattle.std.proofs.Common.{◌≡◌, ℕ, ◌+◌, ◌<◌, ◌≤◌, ◌⊎◌, inl, inr, Bool, true, false, cond, List, [], ◌∷◌, ◌++◌, length, map, refl, sym, ap, ◌∙◌, subst, append-nil, ⊎_elim}
+use Rattle.std.proofs.Common.{◌≡◌, ℕ, ◌<◌, ◌≤◌, inl, true, false, List, [], ◌∷◌, ◌++◌, length, refl, sym, ap, ◌∙◌, subst, append-nil}
 use Rattle.std.specs.Prelude.{Option, Some, None, is_some}
-use Rattle.std.specs.FinMap.{get, entries, from_entries, empty}
-use Rattle.std.specs.Ordering.{nat_cmp}
+use Rattle.std.specs.FinMap.{get, empty}
 use Rattle.room_msg.specs.declared.messages.Resume.{Resume}
-use Rattle.room_log.specs.Log.{State, Session, Update, Entry, last_of, updates_of}
+use Rattle.room_log.specs.Log.{State, Update, last_of, updates_of}
 use Rattle.room_model.specs.Account.{Batch, actor_in}
-use Rattle.room_model.specs.Server.{Server, Down, Link, Up, Limits}
+use Rattle.room_model.specs.Server.{Server, Limits}
 use Rattle.room_model.specs.Lines as lines
 use Rattle.room_model.specs.World
 use Rattle.room_model.specs.World.{Conn, Seat, Host, Running, Stopped, state_in, links_of}
-use Rattle.room_model.specs.Run.{Run, seat_in, seat, account, all_given, IsUndisturbed, with_step, issued_of}
+use Rattle.room_model.specs.Run.{Run, seat_in, seat, account, all_given, IsUndisturbed, with_step}
 use Rattle.room_laws.specs.Core.{Core, core, actor}
 use Rattle.room_laws.specs.Queues.{Place}
 use Rattle.room_laws.specs.Invariant
 use Rattle.room_laws.proofs.Maps.{get_none, emptied_at, hushed}
 use Rattle.room_laws.proofs.Queues.{grown}
 use Rattle.room_laws.proofs.Keep.{client_as, ups_as}
-use Rattle.room_laws.proofs.Runs.{updates_of-nil}
 use Rattle.room_laws.proofs.OwnLines.{keeps_saying}
 use Rattle.room_laws.proofs.Sessions.{begun_since}
 use Rattle.room_laws.proofs.Served.{ClientOf}
-use Rattle.room_laws.proofs.Sent.{grown_nil}
 
 none_some : {A : Type 0} (x : A) → None ≡ Some x → ⊥
 none_some x e = cc

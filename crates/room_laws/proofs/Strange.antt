@@ -1,17 +1,13 @@
 -- A connection that no client dialled changes.
-use Rattle.std.proofs.Common.{◌≡◌, ℕ, ◌+◌, ◌<◌, ◌≤◌, ◌⊎◌, inl, inr, Bool, true, false, List, [], ◌∷◌, ◌++◌, length, refl, sym, ap, ◌∙◌, subst, ⊎_elim}
+use Rattle.std.proofs.Common.{◌≡◌, ℕ, ◌<◌, ◌⊎◌, inl, inr, true, false, [], refl, sym, ap, ◌∙◌, subst}
 use Rattle.std.specs.Prelude.{Option, Some, None, is_some}
 use Rattle.std.proofs.lemmas.Bool.{cases_eq}
-use Rattle.std.specs.FinMap.{FinMap, get, insert}
-use Rattle.std.specs.Ordering.{nat_cmp}
-use Rattle.room_log.specs.Log.{State, last_of, updates_of}
-use Rattle.room_model.specs.Server.{Down, Link, Up}
-use Rattle.room_model.specs.World.{World, Host, Conn, Seat, state_in, links_of, with_conn}
-use Rattle.room_model.specs.Run.{Run, seat, account, all_given, IsUndisturbed}
-use Rattle.room_laws.specs.Core.{Core, core, actor}
+use Rattle.std.specs.FinMap.{get}
+use Rattle.room_log.specs.Log.{State}
+use Rattle.room_model.specs.World.{Conn, with_conn}
+use Rattle.room_model.specs.Run.{Run, seat}
 use Rattle.room_laws.specs.Invariant
 use Rattle.room_laws.proofs.Maps.{conn_same, conn_other, get_same, get_other}
-use Rattle.room_laws.proofs.Keep.{client_as, ups_as}
 
 none_some : {A : Type 0} (x : A) → None ≡ Some x → ⊥
 none_some x e = cc

@@ -1,6 +1,6 @@
 -- The frames of a connection that no undisturbed client owns.
-use Rattle.std.proofs.Common.{◌≡◌, ℕ, zero, suc, ◌+◌, ◌<◌, ◌≤◌, ◌⊎◌, inl, inr, Bool, true, false, cond, ◌==◌, ◌&&◌, not, nat_le, List, [], ◌∷◌, ◌++◌, length, refl, sym, ap, ◌∙◌, subst, arith, append-nil, ⊎_elim}
-use Rattle.std.specs.Prelude.{Option, Some, None, Ok, Err, codes, decimal, is_some}
+use Rattle.std.proofs.Common.{◌≡◌, ℕ, zero, suc, ◌+◌, ◌<◌, ◌≤◌, ◌⊎◌, inl, inr, Bool, true, false, cond, ◌==◌, ◌&&◌, not, nat_le, List, [], ◌∷◌, ◌++◌, length, refl, sym, ap, ◌∙◌, subst, arith, ⊎_elim}
+use Rattle.std.specs.Prelude.{Option, Some, None, Ok, Err, codes, decimal}
 use Rattle.std.proofs.lemmas.Bool.{cases_eq, eq-eqb, ne_eqb}
 use Rattle.std.specs.Str.{bytes_eq}
 use Rattle.std.specs.FinMap.{get}
@@ -8,29 +8,26 @@ use Rattle.room_items.specs.Items.{tree_in, items_of}
 use Rattle.room_msg.specs.declared.messages.Resume.{Resume}
 use Rattle.room_msg.specs.declared.messages.Hello.{Hello}
 use Rattle.room_msg.specs.declared.messages.ClientMsg.{ClientMsg}
-use Rattle.room_msg.specs.declared.messages.ClientMsg.TheVariants as client
 use Rattle.room_msg.specs.declared.messages.ClientFrame.TheVariants as frame
 use Rattle.room_msg.specs.declared.reason.Reason.TheVariants as reason
-use Rattle.room_log.specs.Log.{State, Session, Entry, Updated, Update, session_of, last_of, last_in, updated}
+use Rattle.room_log.specs.Log.{State, Session, Updated, Update, session_of, last_in, updated}
 use Rattle.room_log.specs.Take.{Taken, Nothing, Gap, Takes, take}
-use Rattle.room_model.specs.Access.{Access, Decision, may_do, refusal_text}
+use Rattle.room_model.specs.Access.{may_do, refusal_text}
 use Rattle.room_model.specs.Server
 use Rattle.room_model.specs.Server.{Link, Up, Served, Pong}
 use Rattle.room_model.specs.World
 use Rattle.room_model.specs.World.{Conn, Host, Running, Fuse, state_in, links_of}
-use Rattle.room_model.specs.Run.{Run, seat, IsUndisturbed}
-use Rattle.room_laws.specs.Core.{actor}
+use Rattle.room_model.specs.Run.{Run, IsUndisturbed}
 use Rattle.room_laws.specs.Invariant
 use Rattle.room_laws.proofs.Maps.{mine, conn_same}
 use Rattle.room_laws.proofs.Calm.{ups_after, SaidTo}
-use Rattle.room_laws.proofs.Stops.{keeps_settings, Settings}
 use Rattle.room_laws.proofs.Acts.{pops, keeps_say}
-use Rattle.room_laws.proofs.Answering.{Kept, keeps_shut, quietly, stops, low}
+use Rattle.room_laws.proofs.Answering.{Kept, keeps_shut, quietly, low}
 use Rattle.room_laws.proofs.Outcomes.{joins_kept, resumes_kept, commits_kept}
 use Rattle.room_laws.proofs.Serves.{begins, talk_kept, sent_kept, reached_kept}
 use Rattle.room_laws.proofs.Talks.{Reached}
 use Rattle.room_laws.proofs.Takings.{Taking, taking}
-use Rattle.room_laws.proofs.Mixed.{Done, mixed}
+use Rattle.room_laws.proofs.Mixed.{mixed}
 
 slice_there : (ss : List Session) (a : ℕ) → 0 < a → a ≤ length ss → (x : Session) × (session_of ss a ≡ Some x)
 slice_there ss zero p q = absurd (omega arith)

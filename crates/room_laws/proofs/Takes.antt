@@ -1,35 +1,16 @@
 -- An undisturbed client takes what comes down: its account, and what comes of it.
-use Rattle.std.proofs.Common.{◌≡◌, ℤ, ℕ, ◌+◌, ◌<◌, ◌≤◌, ◌⊎◌, inl, inr, max, Bool, true, false, cond, not, ◌==◌, nat_lt, List, [], ◌∷◌, ◌++◌, length, map, refl, sym, ap, ◌∙◌, subst, arith, append-nil, append_assoc, length-append, ⊎_elim}
-use Rattle.std.specs.Prelude.{Option, Some, None, is_some, Result, Ok, Err}
-use Rattle.std.proofs.lemmas.Bool.{eq-eqb}
-use Rattle.std.proofs.lemmas.Bool.Decides.{nat_tests}
-use Rattle.room_json.specs.Value.{Value}
-use Rattle.room_json.specs.declared.tree.Json.{Json}
-use Rattle.room_nodes.specs.declared.nodes.Op.{Op}
-use Rattle.room_nodes.specs.Shape.{Nodes}
-use Rattle.room_nodes.specs.Steps.{fold}
-use Rattle.room_items.specs.Items.{tree_in}
+use Rattle.std.proofs.Common.{◌≡◌, ℕ, ◌⊎◌, inl, inr, true, cond, List, [], ◌∷◌, ◌++◌, refl, sym, ap, ◌∙◌, subst}
+use Rattle.std.specs.Prelude.{Option, Some, None, is_some}
 use Rattle.room_msg.specs.declared.messages.Resume.{Resume}
-use Rattle.room_msg.specs.declared.messages.ServerMsg.{ServerMsg}
-use Rattle.room_msg.specs.declared.messages.ServerMsg.TheVariants as server
-use Rattle.room_log.specs.Log.{State, Session, Update, tree_after, last_after, last_of, bodies_of, ops_of}
-use Rattle.room_model.specs.Account.{Account, Batch, Part, Stage, Idle, Dialled, Connected, Synced, actor_in, ends, beyond, frame_of, is_on, last_issued}
-use Rattle.room_model.specs.Comes
-use Rattle.room_model.specs.Server.{Down, Message, Link, Up}
-use Rattle.room_model.specs.World.{frame_up}
-use Rattle.room_model.specs.Run.{all_given}
-use Rattle.room_laws.specs.Ledger.{Matches, upto, Silent}
-use Rattle.room_laws.specs.Core.{Core, core, issued, actor}
-use Rattle.room_laws.specs.Queues.{Place, IsOn, Says, Waits, InOrder}
+use Rattle.room_log.specs.Log.{State, Session, Update, last_of}
+use Rattle.room_model.specs.Account.{Account, Batch, Stage, Idle, Dialled, Connected, Synced, actor_in, is_on}
+use Rattle.room_model.specs.Server.{Down, Link, Up}
+use Rattle.room_laws.specs.Core.{Core, core, actor}
+use Rattle.room_laws.specs.Queues.{Place, IsOn, Waits}
 use Rattle.room_laws.specs.Invariant
-use Rattle.room_laws.proofs.Batches.{upto_above, ends_upto, beyond-append, beyond_upto, Runs-front}
-use Rattle.room_laws.proofs.Matches.{left}
-use Rattle.room_laws.proofs.Advance.{advance, next_taken, tree_after-append, bodies_again}
-use Rattle.room_laws.proofs.Queues.{frames, unnamed}
-use Rattle.room_laws.proofs.Owns.{welcome, loading, updating, own_parts, own_room, own_named, own_whole, own_update, told_is, rest_is, nothing_done}
 use Rattle.room_laws.proofs.Cuts.{ups_idle}
 use Rattle.room_laws.proofs.Sends.{Turned}
-use Rattle.room_laws.proofs.Speaks.{Sendable, Reaches, ups_send, ups_mute, on_actor}
+use Rattle.room_laws.proofs.Speaks.{Sendable, ups_send, ups_mute, on_actor}
 
 pub on_true : (g : Stage) → IsOn g → is_on g ≡ true
 on_true Idle h = absurd h

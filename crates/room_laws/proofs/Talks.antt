@@ -1,11 +1,10 @@
 -- The messages of a session's frame act in order.
-use Rattle.std.proofs.Common.{◌≡◌, ℤ, ℕ, ◌+◌, ◌<◌, ◌≤◌, ◌⊎◌, inl, inr, Bool, true, false, cond, ◌==◌, List, [], ◌∷◌, ◌++◌, length, map, refl, sym, ap, ◌∙◌, subst, append-nil, append_assoc, ⊎_elim, pos, negsuc}
-use Rattle.std.specs.Prelude.{Option, Some, None, is_some}
-use Rattle.std.proofs.lemmas.Bool.{cases_eq, eq-eqb, ne_eqb}
-use Rattle.std.specs.FinMap.{FinMap, get, insert, entries}
+use Rattle.std.proofs.Common.{◌≡◌, ℤ, ℕ, Bool, true, false, cond, List, [], ◌∷◌, ◌++◌, refl, sym, ap, ◌∙◌, ⊎_elim, pos, negsuc}
+use Rattle.std.specs.Prelude.{Option, Some, None}
+use Rattle.std.proofs.lemmas.Bool.{cases_eq}
+use Rattle.std.specs.FinMap.{FinMap, get}
 use Rattle.std.specs.Ordering.{nat_cmp}
 use Rattle.room_json.specs.Value.{Value}
-use Rattle.room_json.specs.declared.tree.Json.{Json}
 use Rattle.room_items.specs.Items
 use Rattle.room_msg.specs.declared.messages.Resume
 use Rattle.room_log.specs.Log
@@ -18,7 +17,7 @@ use Rattle.room_model.specs.Server
 use Rattle.room_model.specs.Server.{Down, Message, Link, Up, Served, has_session, holds, is_actor}
 use Rattle.room_model.specs.World
 use Rattle.room_model.specs.World.{Conn, Host, Running, Fuse, deliver, links_of}
-use Rattle.room_model.specs.Run.{Run, IsUndisturbed}
+use Rattle.room_model.specs.Run.{Run}
 use Rattle.room_laws.specs.Queues.{Place, IsOn, Says}
 use Rattle.room_laws.specs.Invariant
 use Rattle.room_laws.proofs.Maps.{mine, passes, to_each_of, to_others_same, to_others_other, get_same}

@@ -1,17 +1,16 @@
 -- The law of undoing, in one piece.
-use Rattle.std.proofs.Common.{◌≡◌, ℕ, ◌⊎◌, inl, inr, Bool, true, false, cond, ◌==◌, List, [], ◌∷◌, ◌++◌, refl, sym, ap, ◌∙◌, subst, append-nil, append_assoc}
+use Rattle.std.proofs.Common.{◌≡◌, ℕ, inl, inr, List, [], ◌∷◌, ◌++◌, refl, sym, ap, ◌∙◌, subst}
 use Rattle.std.proofs.lemmas.Bool.{eq-eqb}
 use Rattle.room_log.specs.Log.{State}
 use Rattle.room_model.specs.Account.{Batch}
 use Rattle.room_steps.specs.Laws.{UndoRestores}
 use Rattle.room_model.specs.Lines as lines
 use Rattle.room_model.specs.World
-use Rattle.room_model.specs.Run.{Run, run, line, opened, with_step, issued_of}
+use Rattle.room_model.specs.Run.{Run, run, line, opened, issued_of}
 use Rattle.room_laws.specs.Ledger.{In}
-use Rattle.room_laws.specs.Invariant
 use Rattle.room_laws.specs.Undo
 use Rattle.room_laws.specs.Undo.{Course, EachUndo}
-use Rattle.room_laws.proofs.Runs.{issued_of-append}
+use Rattle.room_laws.proofs.RunSteps.{issued_of-append}
 use Rattle.room_laws.proofs.Follows.{kept}
 use Rattle.room_laws.proofs.Whole.{Good, keeps, keeps_all, begins}
 use Rattle.room_laws.proofs.Reversed.{each_reversed}

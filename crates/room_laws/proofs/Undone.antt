@@ -1,14 +1,12 @@
 -- A batch that was taken back, in the log.
-use Rattle.std.proofs.Common.{◌≡◌, ℕ, ◌+◌, ◌<◌, ◌≤◌, ◌⊎◌, inl, inr, List, [], ◌∷◌, ◌++◌, length, refl, sym, ap, ◌∙◌, subst, arith, append_assoc, ⊎_elim}
-use Rattle.room_nodes.specs.declared.nodes.Body.{Body}
+use Rattle.std.proofs.Common.{◌≡◌, ℕ, ◌+◌, ◌<◌, inl, inr, List, [], ◌∷◌, ◌++◌, length, refl, sym, ap, ◌∙◌, subst, arith, append_assoc}
 use Rattle.room_nodes.specs.Shape.{Nodes, IsFormed}
 use Rattle.room_nodes.specs.Steps.{fold, settle_all}
 use Rattle.room_log.specs.Log.{State, Update, tree_after, updates_of}
 use Rattle.room_model.specs.Account.{Batch, actor}
-use Rattle.room_laws.specs.Clocks.{RunsOn}
+use Rattle.room_model.specs.Sound.{RunsOn}
 use Rattle.room_steps.specs.Laws.{UndoRestores}
-use Rattle.room_nodes.specs.Reversal.{reverse_all}
-use Rattle.room_model.specs.Run.{Run, run, opened, account, issued_of, IsUndisturbed}
+use Rattle.room_model.specs.Run.{Run, run, opened, account, issued_of}
 use Rattle.room_laws.specs.Ledger.{In}
 use Rattle.room_laws.specs.Laws.{Kept, Once}
 use Rattle.room_laws.specs.Undoing.{Accepts, TakesBack, IsSound, EachUndone, bodies_after}

@@ -1,29 +1,26 @@
 -- A session begins or goes on: the connection k is given the actor of w.
-use Rattle.std.proofs.Common.{◌≡◌, ℕ, zero, suc, ◌+◌, ◌<◌, ◌≤◌, ◌⊎◌, inl, inr, Bool, true, false, cond, List, [], ◌∷◌, ◌++◌, length, refl, sym, ap, ◌∙◌, subst, arith, append-nil, append_assoc, length-append, ⊎_elim}
+use Rattle.std.proofs.Common.{◌≡◌, ℕ, zero, suc, ◌<◌, ◌≤◌, ◌⊎◌, inl, inr, true, false, List, [], ◌∷◌, ◌++◌, length, refl, sym, ap, ◌∙◌, subst, arith, append-nil, ⊎_elim}
 use Rattle.std.specs.Prelude.{Option, Some, None, is_some, slice_get}
-use Rattle.std.proofs.lemmas.Bool.{cases_eq, eq-eqb, ne_eqb}
-use Rattle.std.proofs.lemmas.Option.{slice_get_within}
-use Rattle.std.specs.FinMap.{FinMap, get}
+use Rattle.std.proofs.lemmas.Bool.{cases_eq}
+use Rattle.std.specs.FinMap.{get}
 use Rattle.room_msg.specs.declared.messages.Resume.{Resume}
-use Rattle.room_msg.specs.declared.messages.ServerMsg.{ServerMsg}
 use Rattle.room_msg.specs.declared.messages.ServerMsg.TheVariants as server
-use Rattle.room_log.specs.Log.{State, Session, Update, last_of, last_in, last_after, session_of, updates_of}
-use Rattle.room_model.specs.Account.{Batch, Stage, Idle, Dialled, Connected, Synced, actor_in}
-use Rattle.room_model.specs.Server.{Server, Down, Message, Closed, Link, Up, has_session}
-use Rattle.room_model.specs.World.{World, Conn, Seat, Host, state_in, links_of}
-use Rattle.room_model.specs.Run.{Run, seat, account, all_given, IsUndisturbed}
-use Rattle.room_laws.specs.Ledger.{Silent, upto}
-use Rattle.room_laws.specs.Core.{Core, core, actor}
-use Rattle.room_laws.specs.Queues.{Place, IsOn, Says, Waits, InOrder}
+use Rattle.room_log.specs.Log.{State, Session, Update, last_of, last_in, session_of, updates_of}
+use Rattle.room_model.specs.Account.{Dialled, Connected, Synced}
+use Rattle.room_model.specs.Server.{Down, Message, Closed, Link, Up, has_session}
+use Rattle.room_model.specs.World.{state_in}
+use Rattle.room_model.specs.Run.{Run, seat, all_given, IsUndisturbed}
+use Rattle.room_laws.specs.Ledger.{Silent}
+use Rattle.room_laws.specs.Core.{actor}
+use Rattle.room_laws.specs.Queues.{Place, IsOn, Waits}
 use Rattle.room_laws.specs.Invariant
 use Rattle.room_laws.proofs.Maps.{passes}
-use Rattle.room_laws.proofs.Queues.{grown, waits_append, waits_grow}
+use Rattle.room_laws.proofs.Queues.{grown}
 use Rattle.room_laws.proofs.Owns.{rest_is}
-use Rattle.room_laws.proofs.Runs.{given_before, given_last, given_owner, given_else}
-use Rattle.room_laws.proofs.Sessions.{last_past}
-use Rattle.room_laws.proofs.Served.{ServerTurn, served, fed, ClientOf}
-use Rattle.room_laws.proofs.Sent.{grown_nil, present_said, present_left, present_closed}
-use Rattle.room_laws.proofs.Calm.{SaidTo, passes_said, Sessionless}
+use Rattle.room_laws.proofs.RunSteps.{given_before, given_last, given_owner, given_else}
+use Rattle.room_laws.proofs.Served.{served, fed}
+use Rattle.room_laws.proofs.Sent.{present_said, present_left, present_closed}
+use Rattle.room_laws.proofs.Calm.{SaidTo, passes_said}
 use Rattle.room_laws.proofs.Stops.{own_same}
 
 -- sessions, after one more

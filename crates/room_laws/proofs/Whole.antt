@@ -1,14 +1,12 @@
 -- Every line keeps the invariant, and so it stands in every run.
-use Rattle.std.proofs.Common.{◌≡◌, ℕ, zero, suc, ◌+◌, ◌<◌, ◌≤◌, ◌⊎◌, inl, inr, Bool, true, false, List, [], ◌∷◌, ◌++◌, length, refl, sym, ap, ◌∙◌, subst, arith, append-nil, append_assoc}
-use Rattle.std.specs.Prelude.{Option, Some, None, is_some}
-use Rattle.std.specs.FinMap.{get, entries, empty, get-empty}
-use Rattle.std.specs.Ordering.{nat_cmp}
-use Rattle.room_nodes.specs.Shape.{Nodes}
+use Rattle.std.proofs.Common.{◌≡◌, ℕ, zero, suc, inr, List, [], ◌∷◌, ◌++◌, refl, sym, ap, ◌∙◌, subst, arith, append_assoc}
+use Rattle.std.specs.Prelude.{Option, Some, None}
+use Rattle.std.specs.FinMap.{entries}
 use Rattle.room_items.specs.Items.{tree_in, items_of}
-use Rattle.room_log.specs.Log.{State, Session, Update, updates_of}
+use Rattle.room_log.specs.Log.{State, Update, updates_of}
 use Rattle.room_model.specs.Lines as lines
 use Rattle.room_model.specs.World
-use Rattle.room_model.specs.Run.{Run, seat, seat_in, account, with_step, run, line, opened, IsUndisturbed}
+use Rattle.room_model.specs.Run.{Run, seat, seat_in, with_step, run, line, opened}
 use Rattle.room_laws.specs.Core.{core}
 use Rattle.room_laws.specs.Invariant
 use Rattle.room_laws.specs.Laws.{ReadsBack, IsReadable, EachShows, EachOnce}
@@ -19,7 +17,7 @@ use Rattle.room_laws.proofs.Downs.{keeps_down}
 use Rattle.room_laws.proofs.Leaving.{keeps_gone}
 use Rattle.room_laws.proofs.Links.{keeps_link, keeps_raw}
 use Rattle.room_laws.proofs.Stops.{keeps_fuse, keeps_stop, keeps_compact, keeps_limit, keeps_start}
-use Rattle.room_laws.proofs.Runs.{updates_of-append}
+use Rattle.room_laws.proofs.RunSteps.{updates_of-append}
 use Rattle.room_laws.proofs.Frame.{keeps_up}
 use Rattle.room_laws.proofs.Follows.{kept, shows}
 

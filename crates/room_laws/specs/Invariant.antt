@@ -1,5 +1,5 @@
 -- What holds between two lines of a schedule.
-use Rattle.std.specs.Prelude.{◌≡◌, ℕ, ◌+◌, ◌<◌, ◌≤◌, ◌⊎◌, Bool, true, false, List, [], ◌∷◌, ◌++◌, length, Option, Some, None, is_some, Ok}
+use Rattle.std.specs.Prelude.{◌≡◌, ℕ, ◌+◌, ◌<◌, ◌≤◌, ◌⊎◌, true, false, List, [], ◌∷◌, ◌++◌, length, Option, Some, None, is_some, Ok}
 use Rattle.std.specs.FinMap.{get}
 use Rattle.room_nodes.specs.Shape.{Nodes}
 use Rattle.room_items.specs.Items.{tree_in, items_of}
@@ -7,9 +7,9 @@ use Rattle.room_msg.specs.declared.messages.Resume.{Resume}
 use Rattle.room_msg.specs.declared.messages.ClientMsg.TheVariants as client
 use Rattle.room_msg.specs.declared.messages.ClientFrame.TheVariants as frame
 use Rattle.room_log.specs.Log.{Session, State, Update, tree_after, session_of, last_of, last_after, updates_of}
-use Rattle.room_model.specs.Account.{Batch, Part, Stage, Idle, Dialled, Synced, actor_in}
+use Rattle.room_model.specs.Account.{Batch, Stage, Idle, Dialled, Synced, actor_in}
 use Rattle.room_model.specs.Server.{Down, Up, Link}
-use Rattle.room_model.specs.World.{World, Host, Running, Stopped, Conn, Seat, room, state_in, links_of}
+use Rattle.room_model.specs.World.{World, Host, Running, Stopped, Conn, room, state_in, links_of}
 use Rattle.room_model.specs.Run.{Run, seat, account, issued_of, all_given, IsUndisturbed}
 use Rattle.room_laws.specs.Ledger.{Ledger, Silent, upto}
 use Rattle.room_laws.specs.Core.{Core, core, issued, actor}

@@ -1,10 +1,10 @@
 -- The laws of every run.
-use Rattle.std.specs.Prelude.{◌≡◌, ℕ, ◌+◌, ◌≤◌, ◌==◌, ◌⊎◌, Bool, true, ◌&&◌, ◌||◌, List, [], ◌∷◌, ◌++◌, Option, Some, None, IsOk}
+use Rattle.std.specs.Prelude.{◌≡◌, ℕ, ◌≤◌, ◌==◌, ◌⊎◌, Bool, true, ◌&&◌, ◌||◌, List, [], ◌∷◌, ◌++◌, Some, IsOk}
 use Rattle.room_nodes.specs.Shape.{Nodes}
 use Rattle.room_nodes.specs.Steps.{fold, settle_all}
 use Rattle.room_items.specs.Items.{tree_in, items_of}
 use Rattle.room_log.specs.Log.{State, Update, tree_after, tree_at, last_at, last_of, updates_of}
-use Rattle.room_model.specs.Account.{Account, Batch, actor, pending_bodies, shown}
+use Rattle.room_model.specs.Account.{Batch, actor, pending_bodies, shown}
 use Rattle.room_model.specs.Lines.{Line}
 use Rattle.room_msg.specs.declared.messages.ServerMsg.{ServerMsg}
 use Rattle.room_msg.specs.declared.messages.ServerFrame.TheVariants.{Msgs}
@@ -12,7 +12,7 @@ use Rattle.room_model.specs.Comes.{frame_comes}
 use Rattle.room_model.specs.Server.{Server, Down, Pong, Message, Closed, Up, serve}
 use Rattle.room_model.specs.World.{Running, state_in}
 use Rattle.room_model.specs.Run.{Run, run, opened, seat, account, issued_of, IsUndisturbed}
-use Rattle.room_laws.specs.Clocks.{RunsOn}
+use Rattle.room_model.specs.Sound.{RunsOn}
 use Rattle.room_laws.specs.Invariant.{conn}
 
 -- From the tree t on, each update of the actor is the next whole batch, settled where it is taken.

@@ -1,9 +1,9 @@
 -- A batch and its undoing, over lines.
-use Rattle.std.specs.Prelude.{◌≡◌, ℕ, true, List, [], ◌∷◌, Option, Some, None}
+use Rattle.std.specs.Prelude.{◌≡◌, ℕ, true, List, [], ◌∷◌, Some, None}
 use Rattle.std.specs.FinMap.{get}
 use Rattle.room_nodes.specs.Shape.{Nodes}
 use Rattle.room_msg.specs.declared.messages.ServerMsg.{ServerMsg}
-use Rattle.room_model.specs.Account.{Account, Batch, OpenBatch, shown}
+use Rattle.room_model.specs.Account.{Batch, OpenBatch, shown}
 use Rattle.room_model.specs.History.{undo_entry}
 use Rattle.room_nodes.specs.Reversal.{reverse_all}
 use Rattle.room_model.specs.Server.{Down, Message}

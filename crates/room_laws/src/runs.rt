@@ -2,6 +2,8 @@
 ghost use Rattle.room_laws.specs.Laws.{EachOnce, EachServed, EachShows, EachTaken};
 ghost use Rattle.room_laws.specs.Lines.{EachReversed};
 ghost use Rattle.room_laws.specs.Reports.{ReportInOrder};
+ghost use Rattle.room_laws.specs.Undo.{EachUndo};
+ghost use Rattle.room_laws.specs.Undoing.{EachUndone};
 
 /// The report of lines after others is theirs, from the world that those left.
 pub fn report_in_order()
@@ -34,4 +36,15 @@ pub fn each_served()
 /// end, is taken back by its reversal on the tree that the client showed as it began.
 pub fn each_reversed()
     ensures { EachReversed }
+{}
+
+/// Undoing a batch whose cells nothing else touched restores them in the log: the tree after the update that took the
+/// undo is as if neither batch had been.
+pub fn each_undone()
+    ensures { EachUndone }
+{}
+
+/// The same from the lines alone: a client begins a batch, ends it and undoes it, and both are in the log.
+pub fn each_undo()
+    ensures { EachUndo }
 {}

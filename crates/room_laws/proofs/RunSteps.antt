@@ -1,8 +1,8 @@
 -- A run after a step.
-use Rattle.std.proofs.Common.{◌≡◌, ℕ, ◌==◌, Bool, true, false, cond, List, [], ◌∷◌, ◌++◌, refl, sym, ap, ◌∙◌, append-nil, append_assoc, ⊎_elim}
+use Rattle.std.proofs.Common.{◌≡◌, ℕ, ◌==◌, Bool, true, false, cond, List, [], ◌∷◌, ◌++◌, refl, sym, ap, ◌∙◌, append-nil, ⊎_elim}
 use Rattle.std.specs.Prelude.{Option, Some, None, not, ◌||◌, ◌&&◌}
 use Rattle.std.proofs.lemmas.Bool.{cases_eq, eq-eqb, ne_eqb}
-use Rattle.room_log.specs.Log.{Entry, Join, Updated, Update, updates_of}
+use Rattle.room_log.specs.Log.{Entry, Join, Updated, updates_of}
 use Rattle.room_model.specs.Account.{Batch}
 use Rattle.room_model.specs.World.{issued_by}
 use Rattle.room_model.specs.Run.{issued_of, all_given, is_owner}
