@@ -9,7 +9,7 @@ use Rattle.room_nodes.specs.Steps.{fold}
 use Rattle.room_log.specs.Log.{State, Update, tree_after, last_after, ops_of, ops_from, bodies_of}
 use Rattle.room_model.specs.Account.{Batch, beyond}
 use Rattle.room_model.specs.Comes.{told_by}
-use Rattle.room_laws.specs.Clocks.{RunsOn}
+use Rattle.room_model.specs.Sound.{RunsOn}
 use Rattle.room_laws.specs.Ledger.{Matches, Ledger, upto}
 use Rattle.room_laws.proofs.Batches.{upto_above}
 use Rattle.room_laws.proofs.Matches.{Matches-append, Matches-cut, left, last_after_is}

@@ -18,7 +18,8 @@ use Rattle.room_model.specs.Account.{Account, Batch, OpenBatch, Part, Stage, Idl
 use Rattle.room_model.specs.Presence.{kept_names}
 use Rattle.room_model.specs.Calls
 use Rattle.room_model.specs.Comes
-use Rattle.room_laws.specs.Clocks.{RunsOn, ClocksRunOn, KeepsClocks}
+use Rattle.room_model.specs.Sound.{RunsOn, ClocksRunOn}
+use Rattle.room_laws.specs.Clocks.{KeepsClocks}
 use Rattle.room_laws.proofs.ClockRuns.{ends_upto, runs-append, beyond-append, runs_beyond}
 use Rattle.room_items.specs.Items.{tree_in}
 

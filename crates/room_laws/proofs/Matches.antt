@@ -6,7 +6,7 @@ use Rattle.room_nodes.specs.declared.nodes.Body.{Body}
 use Rattle.room_nodes.specs.Steps.{step, settled_body, fold, settle_all}
 use Rattle.room_log.specs.Log.{Update, tree_after, last_after}
 use Rattle.room_model.specs.Account.{Batch, beyond}
-use Rattle.room_laws.specs.Clocks.{RunsOn}
+use Rattle.room_model.specs.Sound.{RunsOn}
 use Rattle.room_laws.specs.Ledger.{Matches, upto, Silent}
 use Rattle.room_laws.proofs.Batches.{beyond_none, beyond_one}
 

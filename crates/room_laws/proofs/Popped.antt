@@ -11,7 +11,7 @@ use Rattle.room_log.specs.Log.{State, ops_from, last_of}
 use Rattle.room_log.specs.Take.{Nothing, Takes, take}
 use Rattle.room_model.specs.Account.{Batch, last_clock}
 use Rattle.room_model.specs.Server.{Up}
-use Rattle.room_laws.specs.Clocks.{RunsOn}
+use Rattle.room_model.specs.Sound.{RunsOn}
 use Rattle.room_laws.specs.Ledger.{In, upto}
 use Rattle.room_laws.specs.Queues.{InOrder}
 use Rattle.room_laws.proofs.Batches.{Runs-back, old_or_next}

@@ -10,7 +10,7 @@ use Rattle.room_log.specs.Log.{State, Update}
 use Rattle.room_model.specs.Account.{Batch, last_clock, frame_of}
 use Rattle.room_model.specs.Server.{Down, Pong, Message, Closed, Up}
 use Rattle.room_model.specs.World.{frame_up}
-use Rattle.room_laws.specs.Clocks.{RunsOn}
+use Rattle.room_model.specs.Sound.{RunsOn}
 use Rattle.room_laws.specs.Ledger.{upto}
 use Rattle.room_laws.specs.Queues.{Place, SaysPart, Says, Waits, InOrder}
 use Rattle.room_laws.proofs.Batches.{upto_above, In-append_left, In-append_right}

@@ -4,7 +4,7 @@ use Rattle.room_nodes.specs.Shape.{Nodes, IsFormed}
 use Rattle.room_nodes.specs.Steps.{fold, settle_all}
 use Rattle.room_log.specs.Log.{State, Update, tree_after, updates_of}
 use Rattle.room_model.specs.Account.{Batch, actor}
-use Rattle.room_laws.specs.Clocks.{RunsOn}
+use Rattle.room_model.specs.Sound.{RunsOn}
 use Rattle.room_steps.specs.Laws.{UndoRestores}
 use Rattle.room_model.specs.Run.{Run, run, opened, account, issued_of}
 use Rattle.room_laws.specs.Ledger.{In}

@@ -7,15 +7,7 @@ use Rattle.room_model.specs.Edits.{Edit}
 use Rattle.room_model.specs.Account.{Account, Batch, new_account, issued}
 use Rattle.room_model.specs.Calls.{Done, Way, lost, dialled, edit, batch_begin, batch_end, go_back, pause as pauses, resume as resumes, clear as clears, presence, event, flushed, resent}
 use Rattle.room_model.specs.Comes.{Took, comes}
-
--- the clocks of these batches run on by ones after c, and none is empty
-abbrev pub RunsOn : ℕ → List Batch → Type 0
-RunsOn c [] = Unit {0}
-RunsOn c (b ∷ bs) = record { first : b.first ≡ c + 1; some : 0 < length b.bodies; more : RunsOn (c + length b.bodies) bs }
-
--- the clocks of an account run on from the last acknowledged one
-abbrev pub ClocksRunOn : Account → Type 0
-ClocksRunOn x = RunsOn x.told (issued x)
+use Rattle.room_model.specs.Sound.{ClocksRunOn}
 
 -- each call and each message keeps them so
 pub record KeepsClocks : Type 0 where

@@ -12,7 +12,7 @@ use Rattle.room_model.specs.Comes.{frame_comes}
 use Rattle.room_model.specs.Server.{Server, Down, Pong, Message, Closed, Up, serve}
 use Rattle.room_model.specs.World.{Running, state_in}
 use Rattle.room_model.specs.Run.{Run, run, opened, seat, account, issued_of, IsUndisturbed}
-use Rattle.room_laws.specs.Clocks.{RunsOn}
+use Rattle.room_model.specs.Sound.{RunsOn}
 use Rattle.room_laws.specs.Invariant.{conn}
 
 -- From the tree t on, each update of the actor is the next whole batch, settled where it is taken.

@@ -4,7 +4,7 @@ use Rattle.room_nodes.specs.Shape.{Nodes}
 use Rattle.room_nodes.specs.Steps.{fold, settle_all}
 use Rattle.room_log.specs.Log.{State, Update, tree_after}
 use Rattle.room_model.specs.Account.{Batch}
-use Rattle.room_laws.specs.Clocks.{RunsOn}
+use Rattle.room_model.specs.Sound.{RunsOn}
 
 -- the clock after these batches, from the clock c on
 abbrev pub upto : ℕ → List Batch → ℕ

@@ -1,3 +1,4 @@
+pub mod Accounts
 pub mod Back
 pub mod Bounds
 pub mod Clocks

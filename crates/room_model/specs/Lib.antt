@@ -11,4 +11,5 @@ pub mod Presence
 pub mod Run
 pub mod Samples
 pub mod Server
+pub mod Sound
 pub mod World

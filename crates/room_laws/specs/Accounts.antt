@@ -1,0 +1,50 @@
+-- Every account is sound, whatever is done with it.
+use Rattle.std.specs.Prelude.{◌≡◌, ◌≤◌, ℕ, Bool, List, Some, Ok, IsUtf8}
+use Rattle.room_json.specs.Value.{Value}
+use Rattle.room_json.specs.View.{json_of}
+use Rattle.room_json.specs.Profile.{IsJson, AreSoundMembers}
+use Rattle.room_json.specs.declared.tree.Json.{Json}
+use Rattle.room_nodes.specs.Shallow.{AreShallowOps}
+use Rattle.room_nodes.specs.Shape.{Nodes}
+use Rattle.room_nodes.specs.Sound.{AreSoundOps}
+use Rattle.room_items.specs.Items.{tree_in}
+use Rattle.room_msg.specs.declared.messages.ServerMsg.{ServerMsg}
+use Rattle.room_msg.specs.declared.messages.ServerMsg.TheVariants as server
+use Rattle.room_log.specs.Follows.{IsKey, most, most_actor}
+use Rattle.room_model.specs.Edits.{Edit}
+use Rattle.room_model.specs.Account.{Account, new_account}
+use Rattle.room_model.specs.Calls.{Done, Way, lost, dialled, edit, batch_begin, batch_end, go_back, pause as pauses, resume as resumes, clear as clears, presence, event, flushed, resent}
+use Rattle.room_model.specs.Comes.{Took, comes}
+use Rattle.room_model.specs.Sound.{IsSound, IsSoundEdit, AreItems, IsValidTree}
+
+-- a message of a server: its numbers are in range, and its values are as deep as a text can have them
+abbrev pub IsSoundServerMsg : ServerMsg → Type 0
+IsSoundServerMsg (server.Presence a target patch) = (a ≤ most_actor) × AreSoundMembers patch
+IsSoundServerMsg (server.Joined a) = a ≤ most_actor
+IsSoundServerMsg (server.Left a) = a ≤ most_actor
+IsSoundServerMsg (server.Broadcast a e) = (a ≤ most_actor) × IsJson (json_of e)
+IsSoundServerMsg (server.RoomState a key users) = (1 ≤ a) × (a ≤ most_actor) × IsKey key
+IsSoundServerMsg (server.State seq last items more) = (seq ≤ most) × (last ≤ most) × AreItems items
+IsSoundServerMsg (server.Update seq os) = (seq ≤ most) × AreSoundOps os × AreShallowOps os
+
+-- what items spell is valid
+abbrev pub TreesAreValid : Type 0
+TreesAreValid = (vs : List Value) (t : Nodes) → AreItems vs → tree_in vs ≡ Some t → IsValidTree t
+
+-- each call and each message keeps an account sound
+pub record KeepsSound : Type 0 where
+  pub new : (room : List ℕ) → IsUtf8 room → IsSound (new_account room)
+  pub lost : (x : Account) → IsSound x → IsSound (lost x)
+  pub dialled : (x : Account) → IsSound x → IsSound (dialled x)
+  pub edit : (x : Account) (e : Edit) (out : Done) → IsSound x → IsSoundEdit e → edit x e ≡ Ok out → IsSound out.account
+  pub batch_begin : (x y : Account) → IsSound x → batch_begin x ≡ Ok y → IsSound y
+  pub batch_end : (x : Account) (out : Done) → IsSound x → batch_end x ≡ Ok out → IsSound out.account
+  pub go_back : (way : Way) (x : Account) (out : Done) → IsSound x → go_back way x ≡ Ok (Some out) → IsSound out.account
+  pub presence : (x y : Account) (patch : List (List ℕ × Value)) (in_history : Bool) → IsSound x → AreSoundMembers patch → presence x patch in_history ≡ Ok y → IsSound y
+  pub event : (x y : Account) (e : Json) → IsSound x → IsJson (json_of e) → event x e ≡ Ok y → IsSound y
+  pub pauses : (x : Account) → IsSound x → IsSound (pauses x)
+  pub resumes : (x : Account) → IsSound x → IsSound (resumes x)
+  pub clears : (x : Account) → IsSound x → IsSound (clears x)
+  pub flushed : (x : Account) → IsSound x → IsSound (flushed x)
+  pub resent : (x : Account) → IsSound x → IsSound (resent x)
+  pub comes : (x : Account) (m : ServerMsg) (out : Took) → IsSound x → IsSoundServerMsg m → comes x m ≡ Ok out → IsSound out.account
