@@ -46,6 +46,10 @@ mod Served
 mod Serves
 mod Sessions
 mod Settled
+mod SoundLines
+mod SoundMaps
+mod SoundSends
+mod SoundServes
 mod Spared
 mod Speaks
 mod Stops

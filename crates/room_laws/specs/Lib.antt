@@ -12,3 +12,4 @@ pub mod Queues
 pub mod Reports
 pub mod Undo
 pub mod Undoing
+pub mod Validity
