@@ -60,5 +60,6 @@ mod Takings
 mod Talks
 mod Undo
 mod Undone
+mod ValidRuns
 mod Welcomes
 mod Whole
