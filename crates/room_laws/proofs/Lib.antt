@@ -1,6 +1,7 @@
 mod Acts
 mod Advance
 mod Alone
+mod Always
 mod Answering
 mod Batches
 mod Calls

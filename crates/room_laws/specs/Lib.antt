@@ -1,4 +1,5 @@
 pub mod Accounts
+pub mod Always
 pub mod Back
 pub mod Bounds
 pub mod Clocks
