@@ -6,7 +6,7 @@ use Rattle.room_model.specs.Lines as lines
 use Rattle.room_model.specs.Run.{Run, run, line, opened}
 use Rattle.room_laws.specs.Always.{AlwaysShows, AlwaysOnce, AlwaysTaken, AlwaysServed, AlwaysUndone, AlwaysUndo, lines_of}
 use Rattle.room_laws.specs.Laws.{ReadsBack}
-use Rattle.room_laws.specs.Undo.{Course, before, begun, made_in, ended, until, undone, whole}
+use Rattle.room_laws.specs.Undo.{Course, begun, ended, whole}
 use Rattle.room_laws.specs.Validity.{ReadableRun}
 use Rattle.room_laws.proofs.Refusals.{each_taken}
 use Rattle.room_laws.proofs.Spared.{each_served}

@@ -1,12 +1,10 @@
 -- Each line keeps a world sound, and its entries follow.
-use Rattle.std.proofs.Common.{◌≡◌, ◌≤◌, ◌<◌, ◌+◌, ℕ, zero, suc, Bool, true, false, cond, List, [], ◌∷◌, ◌++◌, map, refl, sym, ap, ◌∙◌, subst, arith, nat_cmp, ⊎_elim}
-use Rattle.std.specs.Prelude.{Option, Some, None, Result, Ok, Err, ⊤}
+use Rattle.std.proofs.Common.{◌≡◌, ◌<◌, ◌+◌, ℕ, zero, suc, Bool, true, false, cond, List, [], ◌∷◌, ◌++◌, map, refl, sym, ap, ◌∙◌, subst, arith, nat_cmp, ⊎_elim}
+use Rattle.std.specs.Prelude.{Option, Some, None, Result, Ok, Err}
 use Rattle.std.proofs.lemmas.Bool.{cases_eq}
 use Rattle.std.specs.FinMap.{FinMap, get, insert, entries}
 use Rattle.room_msg.specs.declared.messages.ClientMsg.{ClientMsg}
 use Rattle.room_msg.specs.declared.messages.ServerMsg.{ServerMsg}
-use Rattle.room_msg.specs.declared.messages.ClientFrame.{ClientFrame}
-use Rattle.room_msg.specs.declared.reason.Reason.{Reason}
 use Rattle.room_msg.specs.Frame.{client_frame_in}
 use Rattle.room_log.specs.Log.{State, Entry, after, state_after}
 use Rattle.room_log.specs.Follows.{IsKey, IsValidLog, IsValidState}
@@ -20,15 +18,15 @@ use Rattle.room_model.specs.Lines as lines
 use Rattle.room_model.specs.Sound.{IsSound, IsSoundEdit, IsLine}
 use Rattle.room_model.specs.World
 use Rattle.room_model.specs.World.{World, Conn, Seat, Stepped, Host, Running, Stopped, state_in, entries_in}
-use Rattle.room_model.specs.Run.{seat, seat_in, account}
+use Rattle.room_model.specs.Run.{seat_in, account}
 use Rattle.room_laws.specs.Accounts.{KeepsSound}
 use Rattle.room_laws.specs.Invariant.{conn_in}
-use Rattle.room_laws.specs.Validity.{AreLimits, AreSoundDowns, AreSoundUps, ClientFramesAreSound, IsSoundConn, IsSoundDown, IsSoundHost, IsSoundLink, IsSoundServer, IsSoundUp, IsSoundWorld, ItemsOfValid}
+use Rattle.room_laws.specs.Validity.{AreLimits, AreSoundDowns, AreSoundUps, ClientFramesAreSound, IsSoundConn, IsSoundDown, IsSoundHost, IsSoundServer, IsSoundUp, IsSoundWorld, ItemsOfValid}
 use Rattle.room_laws.proofs.Maps.{conn_same, conn_other, emptied_at, get_none}
 use Rattle.room_laws.proofs.Calls.{seat_same, seat_other}
-use Rattle.room_laws.proofs.SoundMaps.{Each, each_put}
+use Rattle.room_laws.proofs.SoundMaps.{each_put}
 use Rattle.room_laws.proofs.SoundSends.{AreSoundFrames, hello_sound, flush_sound, resend_sound, replies_sound}
-use Rattle.room_laws.proofs.SoundServes.{AreSoundOuts, Goes, Calm, serve_goes, gone_is}
+use Rattle.room_laws.proofs.SoundServes.{AreSoundOuts, Goes, serve_goes, gone_is}
 
 -- queues
 
@@ -143,8 +141,8 @@ module _ (n : ℕ) (s : State) where
   cut_present w None h = h
   cut_present w (Some k) h = put_conns w (World.cut_conn w.conns k (get w.conns k)) h (cut_sound w.conns k (get w.conns k) refl h.world.conns)
 
-  stopped : (m : ℕ) (w : World) (z : State) → IsSoundWorld n w → IsValidState z → IsSoundWorld n (World.stopped w z)
-  stopped m w z h i = record {
+  stopped : (w : World) (z : State) → IsSoundWorld n w → IsValidState z → IsSoundWorld n (World.stopped w z)
+  stopped w z h i = record {
     host = i;
     limits = h.limits;
     clients = h.clients;
@@ -347,11 +345,11 @@ module _ (n : ℕ) (s : State) where
 
     fired : (b : Bool) → IsValidState v.state → Stands n s (cond b (record { world = World.stopped w (World.state_with v.state out.entry); lines = []; entries = entries_in out.entry; issues = []; given = [] }) (World.quiet (World.stopped w v.state)))
     fired true i = record {
-      world = stopped n w (World.state_with v.state out.entry) h.world (subst IsValidState (sym (state_with_is v.state out.entry)) valid);
+      world = stopped w (World.state_with v.state out.entry) h.world (subst IsValidState (sym (state_with_is v.state out.entry)) valid);
       log = logged;
       state = state_with_is v.state out.entry ∙ ap (λ z. state_after z (entries_in out.entry)) runs;
     }
-    fired false i = record { world = stopped n w v.state h.world i; log = tt; state = runs }
+    fired false i = record { world = stopped w v.state h.world i; log = tt; state = runs }
 
     answered : (b : World.Burnt) → IsValidState v.state → Stands n s (World.answered w v k out b)
     answered (World.Intact f) i = record {
@@ -398,7 +396,7 @@ module _ (n : ℕ) (s : State) where
   stop : (w : World) (g : Host) → w.host ≡ g → Same n s w → Same n s (World.stop w g)
   stop w (Running v) e h =
       let sound : IsSoundServer v = subst IsSoundHost e h.world.host in
-      record { world = stopped n w v.state h.world sound.state; state = ap state_in (sym e) ∙ h.state }
+      record { world = stopped w v.state h.world sound.state; state = ap state_in (sym e) ∙ h.state }
   stop w (Stopped z) e h = h
 
   no_link : (k : ℕ) (l : Link) → get (World.links_of (Stopped s)) k ≡ Some l → ⊥
@@ -419,7 +417,7 @@ module _ (n : ℕ) (s : State) where
     log = tt;
     state = ap state_in (sym e) ∙ h.state;
   }
-  started w z (World.Fires call how) e h = saying _ _ (record { world = stopped n w z h.world (subst IsSoundHost e h.world.host); state = ap state_in (sym e) ∙ h.state })
+  started w z (World.Fires call how) e h = saying _ _ (record { world = stopped w z h.world (subst IsSoundHost e h.world.host); state = ap state_in (sym e) ∙ h.state })
 
   start : (w : World) (g : Host) → w.host ≡ g → Same n s w → Stands n s (World.start w g)
   start w (Running v) e h = quietly w h

@@ -1,5 +1,5 @@
 -- What a client with a sound account sends is sound.
-use Rattle.std.proofs.Common.{◌≡◌, ◌≤◌, ◌+◌, ℕ, Bool, true, false, cond, ◌&&◌, not, List, [], ◌∷◌, ◌++◌, map, length, refl, sym, ap, ◌∙◌, subst, arith, nat_cmp, Less}
+use Rattle.std.proofs.Common.{◌≡◌, ◌≤◌, ◌+◌, ℕ, Bool, true, false, cond, ◌&&◌, not, List, [], ◌∷◌, ◌++◌, map, length, sym, ap, subst, arith, nat_cmp, Less}
 use Rattle.std.specs.Prelude.{Option, Some, None, Result, Ok, Err, ⊤}
 use Rattle.std.specs.List.{AllByRecursion}
 use Rattle.std.specs.Cmp.Lexicographic.{slice_cmp}
@@ -25,7 +25,7 @@ use Rattle.room_model.specs.Calls as calls
 use Rattle.room_model.specs.Comes
 use Rattle.room_model.specs.Comes.{Took, FrameFault}
 use Rattle.room_model.specs.Presence.{unsent_members, is_among}
-use Rattle.room_model.specs.Sound.{IsSound, IsSession, RunsOn, AreOwn, AreValidBatches, AreValidEvents}
+use Rattle.room_model.specs.Sound.{IsSound, IsSession, RunsOn, AreValidBatches, AreValidEvents}
 use Rattle.room_model.specs.World.{frame_up}
 use Rattle.room_laws.specs.Validity.{AreSoundUps, IsSoundUp}
 

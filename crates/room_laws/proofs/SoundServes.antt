@@ -7,8 +7,8 @@ use Rattle.std.proofs.Math.ListN.{length-set}
 use Rattle.std.proofs.lemmas.Bool.{eqb-true}
 use Rattle.std.proofs.lemmas.Bool.Decides.{Decides-and, Decides-eqb, nat_tests}
 use Rattle.std.proofs.lemmas.Option.{slice_get_within}
-use Rattle.room_json.specs.Value.{Value, depth, values_depth, values_of}
-use Rattle.room_json.specs.Profile.{IsJson, AreJson, AreSoundMembers}
+use Rattle.room_json.specs.Value.{Value, depth}
+use Rattle.room_json.specs.Profile.{IsJson, AreSoundMembers}
 use Rattle.room_nodes.specs.declared.nodes.Op.{Op}
 use Rattle.room_nodes.specs.Shallow.{AreShallowOps}
 use Rattle.room_nodes.specs.Sound.{AreSoundOps}
@@ -24,9 +24,9 @@ use Rattle.room_msg.specs.declared.messages.ClientFrame.TheVariants as frame
 use Rattle.room_msg.specs.declared.messages.ServerMsg.{ServerMsg}
 use Rattle.room_msg.specs.declared.messages.ServerMsg.TheVariants as server
 use Rattle.room_msg.specs.declared.reason.Reason.TheVariants as reason
-use Rattle.room_log.specs.Log.{Session, State, Update, Entry, Join, Updated, after, state_after, session_of, last_in, last_of, last_from, with_last, with_last_at, ops_of}
+use Rattle.room_log.specs.Log.{Session, Update, Entry, Join, Updated, after, state_after, session_of, last_in, last_of, last_from, with_last, with_last_at, ops_of}
 use Rattle.room_log.specs.Take.{Taken, Nothing, Gap, Takes, take}
-use Rattle.room_log.specs.Follows.{AreValidSessions, IsKey, IsNext, IsNextUpdate, IsValidLog, IsValidSession, IsValidState, most, most_actor}
+use Rattle.room_log.specs.Follows.{AreValidSessions, IsKey, IsNext, IsNextUpdate, IsValidLog, IsValidSession, most, most_actor}
 use Rattle.room_log.specs.Laws.{TakenFollows, ValidAfter}
 use Rattle.room_log.proofs.Following.{Decides-le, follows_exactly}
 use Rattle.room_log.proofs.NextTaken.{taken_follows}

@@ -1,9 +1,7 @@
 -- The log of every run is valid, and each tree of it is read again.
-use Rattle.std.proofs.Common.{◌≡◌, ◌≤◌, ◌<◌, ◌+◌, ℕ, suc, List, [], ◌∷◌, ◌++◌, length, refl, sym, ap, ◌∙◌, subst, arith, rules}
-use Rattle.std.specs.Prelude.{Option, Some, None, codes, IsUtf8}
+use Rattle.std.proofs.Common.{◌≡◌, ◌<◌, ◌+◌, ℕ, List, [], ◌∷◌, ◌++◌, length, refl, sym, ap, ◌∙◌, subst, arith, rules}
+use Rattle.std.specs.Prelude.{Option, Some, None, IsUtf8}
 use Rattle.std.proofs.lemmas.Str.{IsUtf8-from_ascii}
-use Rattle.std.specs.FinMap.{get}
-use Rattle.room_nodes.specs.Shape.{Nodes}
 use Rattle.room_nodes.specs.Steps.{fold}
 use Rattle.room_items.specs.Items.{tree_in, items_of}
 use Rattle.room_items.specs.Laws.{TreesReadBack}
@@ -13,7 +11,6 @@ use Rattle.room_log.specs.Log.{State, Update, Entry, Join, Updated, after, state
 use Rattle.room_log.specs.Follows.{IsKey, IsValidLog, IsValidState}
 use Rattle.room_log.specs.Laws.{ValidAfter}
 use Rattle.room_log.proofs.ValidStates.{valid_after}
-use Rattle.room_model.specs.Account.{new_account}
 use Rattle.room_model.specs.Lines as lines
 use Rattle.room_model.specs.Server
 use Rattle.room_model.specs.Sound.{IsSound}
@@ -23,7 +20,7 @@ use Rattle.room_model.specs.Run.{Run, seat_in, line, run, opened}
 use Rattle.room_laws.specs.Accounts.{KeepsSound}
 use Rattle.room_laws.specs.Invariant.{conn_in}
 use Rattle.room_laws.specs.Laws.{ReadsBack}
-use Rattle.room_laws.specs.Validity.{AreLines, AreSpelled, ClientFramesAreSound, IsSoundConn, IsSoundWorld, ItemsOfValid, ReadableRun, ValidRun}
+use Rattle.room_laws.specs.Validity.{AreSpelled, ClientFramesAreSound, IsSoundConn, IsSoundWorld, ItemsOfValid, ReadableRun, ValidRun}
 use Rattle.room_laws.proofs.Maps.{get_none}
 use Rattle.room_laws.proofs.SoundLines.{Stands, step_stands, state_after-append, valid-append}
 

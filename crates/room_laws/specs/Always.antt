@@ -1,5 +1,5 @@
 -- The laws of every run, from each valid state and over all lines that a schedule can spell.
-use Rattle.std.specs.Prelude.{◌≡◌, ℕ, true, List, [], ◌∷◌, ◌++◌, Some, Ok, IsOk}
+use Rattle.std.specs.Prelude.{◌≡◌, ℕ, true, List, [], ◌∷◌, ◌++◌, Some, IsOk}
 use Rattle.room_nodes.specs.Shape.{Nodes}
 use Rattle.room_nodes.specs.Steps.{fold}
 use Rattle.room_log.specs.Log.{State, Update, tree_after}

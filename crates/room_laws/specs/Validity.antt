@@ -1,5 +1,5 @@
 -- Over all lines that a schedule can spell, the log of the run is valid.
-use Rattle.std.specs.Prelude.{◌≡◌, ℕ, ◌≤◌, List, [], ◌∷◌, length, Option, Some, None, Ok, Err, IsOk, true, IsUtf8, ⊤}
+use Rattle.std.specs.Prelude.{◌≡◌, ℕ, ◌≤◌, List, [], ◌∷◌, length, Option, Some, None, Ok, Err, IsUtf8, ⊤}
 use Rattle.std.specs.FinMap.{get}
 use Rattle.room_json.specs.View.{json_of}
 use Rattle.room_json.specs.Profile.{IsJson, AreSoundMembers}
