@@ -1,6 +1,7 @@
 mod Acts
 mod Advance
 mod Alone
+mod Always
 mod Answering
 mod Batches
 mod Calls
@@ -52,10 +53,14 @@ mod Served
 mod Serves
 mod Sessions
 mod Settled
-mod Spared
 mod SoundAccounts
 mod SoundCalls
 mod SoundComes
+mod SoundLines
+mod SoundMaps
+mod SoundSends
+mod SoundServes
+mod Spared
 mod Speaks
 mod Stops
 mod Strange
@@ -65,6 +70,7 @@ mod Takings
 mod Talks
 mod Undo
 mod Undone
+mod ValidRuns
 mod Validity
 mod Welcomes
 mod Whole

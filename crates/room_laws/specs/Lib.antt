@@ -1,4 +1,5 @@
 pub mod Accounts
+pub mod Always
 pub mod Back
 pub mod Bounds
 pub mod Clocks
@@ -12,3 +13,4 @@ pub mod Queues
 pub mod Reports
 pub mod Undo
 pub mod Undoing
+pub mod Validity

@@ -1,0 +1,49 @@
+-- The laws of every run without a premise on its log: what a schedule spells leads to trees that are read again.
+use Rattle.std.proofs.Common.{◌≡◌, ℕ, List, [], ◌∷◌, ◌++◌, refl, ◌∙◌, subst}
+use Rattle.room_steps.specs.Laws.{UndoRestores}
+use Rattle.room_log.specs.Log.{State, updates_of}
+use Rattle.room_model.specs.Lines as lines
+use Rattle.room_model.specs.Run.{Run, run, line, opened}
+use Rattle.room_laws.specs.Always.{AlwaysShows, AlwaysOnce, AlwaysTaken, AlwaysServed, AlwaysUndone, AlwaysUndo, lines_of}
+use Rattle.room_laws.specs.Laws.{ReadsBack}
+use Rattle.room_laws.specs.Undo.{Course, begun, ended, whole}
+use Rattle.room_laws.specs.Validity.{ReadableRun}
+use Rattle.room_laws.proofs.Refusals.{each_taken}
+use Rattle.room_laws.proofs.Spared.{each_served}
+use Rattle.room_laws.proofs.Undo.{each_undo}
+use Rattle.room_laws.proofs.Undone.{each_undone}
+use Rattle.room_laws.proofs.Whole.{each_shows, each_once}
+
+-- lines after others
+run-append : (ls ms : List (ℕ × lines.Line)) (r : Run) → run r (ls ++ ms) ≡ run (run r ls) ms
+run-append [] ms r = refl
+run-append (l ∷ ls) ms r = run-append ls ms (line r l.0 l.1)
+
+-- a course is the run over its lines
+whole_is : (s : State) (q : Course) (c : ℕ) → run (opened s) (lines_of q c) ≡ whole s q c
+whole_is s q c =
+    let undoing = (q.back, lines.Undo c) ∷ q.rest in
+    let ending = (q.last, lines.End c) ∷ (q.until ++ undoing) in
+    run-append q.before ((q.first, lines.Begin c) ∷ (q.within ++ ending)) (opened s)
+    ∙ run-append q.within ending (begun s q c)
+    ∙ run-append q.until undoing (ended s q c)
+
+module _ (reads : ReadableRun) where
+  pub always_shows : AlwaysShows
+  always_shows s ls c t h l u e = each_shows s ls c t (reads s ls h l) u e
+
+  pub always_once : AlwaysOnce
+  always_once s ls c h l u = each_once s ls c (reads s ls h l) u
+
+  pub always_taken : AlwaysTaken
+  always_taken s ls c k m ms h l = each_taken s ls c k m ms (reads s ls h l)
+
+  pub always_served : AlwaysServed
+  always_served s ls c k v u us h l = each_served s ls c k v u us (reads s ls h l)
+
+  pub always_undone : UndoRestores → AlwaysUndone
+  always_undone restores s ls c shown made back us vs ws b u h l = each_undone restores s ls c shown made back us vs ws b u (reads s ls h l)
+
+  pub always_undo : UndoRestores → AlwaysUndo
+  always_undo restores s q c t made back us vs ws b u h l =
+      each_undo restores s q c t made back us vs ws b u (subst (λ (r : Run). ReadsBack s (updates_of r.log)) (whole_is s q c) (reads s (lines_of q c) h l))

@@ -1,0 +1,122 @@
+-- Over all lines that a schedule can spell, the log of the run is valid.
+use Rattle.std.specs.Prelude.{◌≡◌, ℕ, ◌≤◌, List, [], ◌∷◌, length, Option, Some, None, Ok, Err, IsUtf8, ⊤}
+use Rattle.std.specs.FinMap.{get}
+use Rattle.room_json.specs.View.{json_of}
+use Rattle.room_json.specs.Profile.{IsJson, AreSoundMembers}
+use Rattle.room_nodes.specs.Shallow.{AreShallowOps}
+use Rattle.room_nodes.specs.Shape.{Nodes}
+use Rattle.room_nodes.specs.Sound.{AreSoundOps}
+use Rattle.room_items.specs.Items.{items_of}
+use Rattle.room_msg.specs.Frame.{client_frame_in}
+use Rattle.room_msg.specs.declared.messages.ClientMsg.{ClientMsg}
+use Rattle.room_msg.specs.declared.messages.ClientMsg.TheVariants as client
+use Rattle.room_msg.specs.declared.messages.ClientFrame.{ClientFrame}
+use Rattle.room_msg.specs.declared.messages.ClientFrame.TheVariants.{Ping, Msgs}
+use Rattle.room_log.specs.Log.{State}
+use Rattle.room_log.specs.Follows.{IsKey, IsValidLog, IsValidState, most, most_actor}
+use Rattle.room_model.specs.Lines.{Line}
+use Rattle.room_model.specs.Server.{Down, Pong, Message, Closed, Up, Limits, Link, Server}
+use Rattle.room_model.specs.World.{Conn, Host, Running, Stopped, World}
+use Rattle.room_model.specs.Run.{run, opened, account}
+use Rattle.room_model.specs.Sound.{AreItems, IsLine, IsSound, IsValidTree}
+use Rattle.room_laws.specs.Accounts.{IsSoundServerMsg}
+use Rattle.room_laws.specs.Invariant.{conn}
+use Rattle.room_laws.specs.Laws.{IsReadable}
+
+-- lines
+
+abbrev pub AreSpelled : List (ℕ × Line) → Type 0
+AreSpelled [] = ⊤
+AreSpelled (l ∷ ls) = IsLine l.1 × AreSpelled ls
+
+-- fewer than 2^64, so that the number of each connection can be a key
+pub record AreLines (ls : List (ℕ × Line)) : Type 0 where
+  pub spelled : AreSpelled ls
+  pub fewer : IsKey (length ls)
+
+-- what goes up
+
+abbrev pub IsSoundText : Option (List ℕ) → Type 0
+IsSoundText None = ⊤
+IsSoundText (Some t) = IsUtf8 t
+
+abbrev pub IsSoundClientMsg : ClientMsg → Type 0
+IsSoundClientMsg (client.Hello h) = IsUtf8 h.room × IsSoundText h.name × IsSoundText h.«pass»
+IsSoundClientMsg (client.Presence target patch) = AreSoundMembers patch
+IsSoundClientMsg (client.Broadcast e) = IsJson (json_of e)
+IsSoundClientMsg client.Fetch = ⊤
+IsSoundClientMsg (client.Update os) = AreSoundOps os × AreShallowOps os
+
+abbrev pub AreSoundClientMsgs : List ClientMsg → Type 0
+AreSoundClientMsgs [] = ⊤
+AreSoundClientMsgs (m ∷ ms) = IsSoundClientMsg m × AreSoundClientMsgs ms
+
+abbrev pub IsSoundUp : Up → Type 0
+IsSoundUp (Err reason) = ⊤
+IsSoundUp (Ok Ping) = ⊤
+IsSoundUp (Ok (Msgs ms)) = AreSoundClientMsgs ms
+
+abbrev pub AreSoundUps : List Up → Type 0
+AreSoundUps [] = ⊤
+AreSoundUps (u ∷ us) = IsSoundUp u × AreSoundUps us
+
+-- and what comes down
+
+abbrev pub IsSoundDown : Down → Type 0
+IsSoundDown Pong = ⊤
+IsSoundDown (Message m) = IsSoundServerMsg m
+IsSoundDown (Closed code text) = ⊤
+
+abbrev pub AreSoundDowns : List Down → Type 0
+AreSoundDowns [] = ⊤
+AreSoundDowns (m ∷ ms) = IsSoundDown m × AreSoundDowns ms
+
+pub record IsSoundConn (q : Conn) : Type 0 where
+  pub up : AreSoundUps q.up
+  pub down : AreSoundDowns q.down
+
+-- a server
+
+pub record AreLimits (l : Limits) : Type 0 where
+  pub updates : l.updates ≤ most
+  pub sessions : l.sessions ≤ most_actor
+
+-- one of that many sessions
+abbrev pub IsActorOf : ℕ → Option ℕ → Type 0
+IsActorOf sessions None = ⊤
+IsActorOf sessions (Some a) = (1 ≤ a) × (a ≤ sessions)
+
+pub record IsSoundLink (sessions : ℕ) (l : Link) : Type 0 where
+  pub key : IsKey l.key
+  pub actor : IsActorOf sessions l.actor
+
+pub record IsSoundServer (v : Server) : Type 0 where
+  pub state : IsValidState v.state
+  pub limits : AreLimits v.limits
+  pub links : (k : ℕ) (l : Link) → get v.links k ≡ Some l → IsSoundLink (length v.state.sessions) l
+
+abbrev pub IsSoundHost : Host → Type 0
+IsSoundHost (Running v) = IsSoundServer v
+IsSoundHost (Stopped s) = IsValidState s
+
+-- a world in which at most so many connections were opened
+pub record IsSoundWorld (most_opened : ℕ) (w : World) : Type 0 where
+  pub host : IsSoundHost w.host
+  pub limits : AreLimits w.limits
+  pub clients : (c : ℕ) → IsSound (account w c)
+  pub conns : (k : ℕ) → IsSoundConn (conn w k)
+  pub opened : w.opened ≤ most_opened
+
+-- what is read of a text is sound, and the items of a valid tree are items
+abbrev pub ClientFramesAreSound : Type 0
+ClientFramesAreSound = (t : List ℕ) (f : ClientFrame) → client_frame_in t ≡ Ok f → IsSoundUp (Ok f)
+
+abbrev pub ItemsOfValid : Type 0
+ItemsOfValid = (t : Nodes) → IsValidTree t → AreItems (items_of t)
+
+-- each entry of a run's log follows from those before it, and each tree of the log is read again
+abbrev pub ValidRun : Type 0
+ValidRun = (s : State) (ls : List (ℕ × Line)) → IsValidState s → AreLines ls → IsValidLog s (run (opened s) ls).log
+
+abbrev pub ReadableRun : Type 0
+ReadableRun = (s : State) (ls : List (ℕ × Line)) → IsValidState s → AreLines ls → IsReadable s ls
