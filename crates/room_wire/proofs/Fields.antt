@@ -8,7 +8,7 @@ use Rattle.std.specs.Cmp.Lexicographic.{slice_cmp}
 use Rattle.std.specs.Ordering.{nat_cmp}
 use Rattle.room_json.proofs.Values.{fields_list-fields_of}
 use Rattle.room_json.specs.Back.{json_in}
-use Rattle.room_json.specs.Fields.{first, field_of, needed}
+use Rattle.room_json.specs.Fields.{first, field_of, needed, allowed}
 use Rattle.room_json.specs.Profile.{IsJson, HaveJson, AreSoundMembers}
 use Rattle.room_json.specs.Value.{Value, nothing, flag, whole, text, list, members, Values, no_values, value, Fields, no_fields, field, values_of, fields_of, values_list, fields_list, as_text, as_members, as_list, depth, fields_depth}
 use Rattle.room_json.specs.View.{json_of}
@@ -133,6 +133,13 @@ has_list v e name ws h = needed_of _ as_list e (field_of name v) ws h (λ w is r
 
 pub has_value : {E : Type 0} (v : Value) (e : E) (name : List ℕ) (w : Value) → needed Some e (field_of name v) ≡ Ok w → Has v (json_of (json_in w))
 has_value v e name w h = needed_of _ Some e (field_of name v) w h (λ u is r. (name, is ∙ r ∙ ap Some (sym (json_of-json_in w))))
+
+-- and of one that may be missing
+
+pub allowed_of : {A E : Type 0} (Good : Option A → Type 0) (read : Value → Option A) (e : E) (o : Option Value) (x : Option A) → allowed read e o ≡ Ok x
+    → Good None → ((w : Value) (y : A) → o ≡ Some w → read w ≡ Some y → Good (Some y)) → Good x
+allowed_of Good read e None x h none some = subst Good (ok_inj h) none
+allowed_of Good read e (Some w) x h none some = map_of _ Some (read w) x (was_there (option_map Some (read w)) e x h) (λ y is same. subst Good same (some w y refl is))
 
 -- members of the profile
 

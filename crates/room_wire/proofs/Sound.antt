@@ -1,5 +1,5 @@
 -- What an operation that was read is made of.
-use Rattle.std.proofs.Common.{◌≡◌, ◌≤◌, ℕ, nat_le, true, List, [], ◌∷◌, codes, Option, Some, None, option_map, Ok, refl, subst, arith}
+use Rattle.std.proofs.Common.{◌≡◌, ◌≤◌, ℕ, nat_le, true, List, [], ◌∷◌, codes, Option, Some, Ok, refl, subst, arith}
 use Rattle.std.specs.Prelude.{⊤}
 use Rattle.std.proofs.lemmas.Bool.Decides.{nat_tests}
 use Rattle.room_json.specs.Fields.{field_of, needed, allowed}
@@ -20,7 +20,7 @@ use Rattle.room_nodes.specs.declared.nodes.Kind.{Kind as NodeKind}
 use Rattle.room_nodes.specs.declared.nodes.Kind.TheVariants.{Object, List as Listing, Map, Register}
 use Rattle.room_nodes.specs.declared.nodes.Body.{Body}
 use Rattle.room_nodes.specs.declared.nodes.Body.TheVariants.{SetKey, Create, Update, Delete, DeleteKey}
-use Rattle.room_wire.proofs.Fields.{Has, ok_inj, gone_on, was_there, and_then_of, map_of, needed_of, has_text, has_members, has_value, has_json, has_depth, sound_members}
+use Rattle.room_wire.proofs.Fields.{Has, ok_inj, gone_on, and_then_of, map_of, needed_of, allowed_of, has_text, has_members, has_value, has_json, has_depth, sound_members}
 use Rattle.room_wire.specs.Laws.{OpsAreSound, OpsAreShallow}
 use Rattle.room_wire.specs.Wire.{as_node, as_op_id, as_intent, as_code, set_key_in, update_in, delete_in, delete_key_in, made_in, create_in, coded_in, op_in}
 use Rattle.room_wire.specs.declared.code.Shape.{Shape}
@@ -62,8 +62,7 @@ id_at e o id h =
     map_of _ (λ (s : Stamp). record { 0 = s }) (stamp_in t) id spells (λ s in_t same. subst (λ (i : OpId). IsInRange i.0) same (stamp_once t s in_t).1)))
 
 replaced_at : (e : Field) (o : Option Value) (r : Option NodeId) → allowed as_node e o ≡ Ok r → IsSomeInRange r
-replaced_at e None r h = subst IsSomeInRange (ok_inj h) tt
-replaced_at e (Some w) r h = map_of _ Some (as_node w) r (was_there (option_map Some (as_node w)) e r h) (λ n is same. subst IsSomeInRange same (node_range w n is))
+replaced_at e o r h = allowed_of IsSomeInRange as_node e o r h tt (λ w n is reads. node_range w n reads)
 
 -- operation by operation
 

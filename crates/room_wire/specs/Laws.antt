@@ -7,7 +7,7 @@ use Rattle.room_ids.specs.declared.ids.NodeId.{NodeId}
 use Rattle.room_json.specs.Profile.{IsJson}
 use Rattle.room_json.specs.Value.{Value, depth, object_of}
 use Rattle.room_nodes.specs.Shallow.{is_shallow}
-use Rattle.room_nodes.specs.Sound.{IsSoundOp}
+use Rattle.room_nodes.specs.Sound.{IsSomeInRange, IsSoundOp}
 use Rattle.room_nodes.specs.declared.nodes.Op.{Op}
 use Rattle.room_nodes.specs.declared.nodes.Body.{Body}
 use Rattle.room_nodes.specs.declared.nodes.Body.TheVariants.{SetKey, Create, Update, Delete, DeleteKey}
@@ -31,13 +31,9 @@ IsAgain id b = op_in (object_of (body_out id b)) ≡ Ok (record { id = id; body 
 
 -- the numbers of ids are in range
 
-abbrev pub IsReplacedInRange : Option NodeId → Type 0
-IsReplacedInRange None = ⊤
-IsReplacedInRange (Some n) = IsNodeInRange n
-
 abbrev pub IsBodyInRange : Body → Type 0
 IsBodyInRange (SetKey node key) = IsNodeInRange node
-IsBodyInRange (Create node parent key replaces kind) = IsNodeInRange node × IsNodeInRange parent × IsReplacedInRange replaces
+IsBodyInRange (Create node parent key replaces kind) = IsNodeInRange node × IsNodeInRange parent × IsSomeInRange replaces
 IsBodyInRange (Update node fields) = IsNodeInRange node
 IsBodyInRange (Delete node) = IsNodeInRange node
 IsBodyInRange (DeleteKey node key) = IsNodeInRange node
