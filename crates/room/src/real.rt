@@ -69,9 +69,8 @@ impl<W: Write> Sink for Writing<W> {
     ghost faults = { λ s. s.faults };
 
     fn write(&mut self, piece: &[u8]) -> Result<usize, SinkFault>
-        requires { 0 < length piece.now }
         ensures bound { WritesAtMost result piece.now }
-        ensures some { IfOk result (λ n. 0 < n) }
+        ensures some { 0 < length piece.now → IfOk result (λ n. 0 < n) }
         ensures bytes { WriteAppends (W.contents self.old.inner) (W.contents self.new.inner) result piece.now }
         ensures later { self.old.faults ≤ self.new.faults }
         ensures only { IfErr result (λ e. e ≡ SinkFault.Failed) }
@@ -80,7 +79,7 @@ impl<W: Write> Sink for Writing<W> {
         ensures counted { OnErr result (self.new.faults ≡ min (self.old.faults + 1) (2 ^ 64 - 1)) }
     {
         match self.inner.write(piece) {
-            Ok(count) if count > 0 => Ok(count),
+            Ok(count) if count > 0 || piece.is_empty() => Ok(count),
             _ => {
                 self.faults = self.faults.saturating_add(1);
                 Err(SinkFault::Failed)

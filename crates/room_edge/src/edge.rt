@@ -41,11 +41,10 @@ pub trait Sink {
     /// How many calls failed, up to the end of the type that counts them.
     ghost faults: { Self → ℕ };
 
-    /// Writes a front of the piece, at least one byte, and answers how many.
+    /// Writes a front of the piece and answers how many bytes: none only where the piece is empty.
     fn write(&mut self, piece: &[u8]) -> Result<usize, SinkFault>
-        requires { 0 < length piece.now }
         ensures bound { WritesAtMost result piece.now }
-        ensures some { IfOk result (λ n. 0 < n) }
+        ensures some { 0 < length piece.now → IfOk result (λ n. 0 < n) }
         ensures bytes { WriteAppends (written self.old) (written self.new) result piece.now }
         ensures later { faults self.old ≤ faults self.new }
         ensures cause { IfErr result (λ e. e ≡ SinkFault.Failed → Rose (faults self.old) (faults self.new)) };

@@ -1,4 +1,4 @@
-ghost use Rattle.std.specs.Prelude.{◌≡◌, ◌<◌, ◌≤◌, Some, [], length, true, false, IfOk, IfErr, OnOk, OnErr};
+ghost use Rattle.std.specs.Prelude.{◌≡◌, ◌<◌, ◌≤◌, ◌++◌, Some, [], length, true, false, IsOk, IfOk, IfErr, OnOk, OnErr};
 ghost use Rattle.std.specs.Io.{WritesAtMost};
 ghost use Rattle.std.specs.Io.KnownBytes.{WriteAppends};
 ghost use Rattle.room_edge.specs.Causes.{Rose};
@@ -6,13 +6,16 @@ ghost use Rattle.room_edge.specs.Memory.{no_calls, is_to_fail, after_write, afte
 
 use crate::calls::Calls;
 use crate::edge::{Sink, SinkFault};
+use room_json::{Bytes, NoMemory};
 use std::alloc::Global;
 use std::marker::Model;
+use std::mem;
 
 /// A sink that keeps what it is given, some of whose calls fail.
 #[derive(Drop)]
 pub struct MemSink {
-    bytes: Vec<u8>,
+    alloc: Global,
+    bytes: Bytes,
     calls: Calls,
 }
 
@@ -21,7 +24,7 @@ impl Model for MemSink {
 
     ghost Value = { Writing };
 
-    ghost view = { λ s. record { written = s.bytes.items; calls = s.calls } };
+    ghost view = { λ s. record { written = s.bytes; calls = s.calls } };
 }
 
 impl MemSink {
@@ -30,16 +33,17 @@ impl MemSink {
         ensures { result ≡ record { written = []; calls = no_calls fails.items } }
     {
         MemSink {
-            bytes: Vec::new(alloc),
+            alloc,
+            bytes: Bytes::new(alloc),
             calls: Calls::new(fails),
         }
     }
 
     /// All that was written.
-    pub fn written(&self) -> &[u8]
+    pub fn written(&self) -> &Bytes
         ensures { result.now ≡ self.now.written }
     {
-        self.bytes.as_slice()
+        &self.bytes
     }
 }
 
@@ -49,9 +53,8 @@ impl Sink for MemSink {
     ghost faults = { λ s. s.calls.faults };
 
     fn write(&mut self, piece: &[u8]) -> Result<usize, SinkFault>
-        requires { 0 < length piece.now }
         ensures bound { WritesAtMost result piece.now }
-        ensures some { IfOk result (λ n. 0 < n) }
+        ensures some { 0 < length piece.now → IfOk result (λ n. 0 < n) }
         ensures bytes { WriteAppends (Some self.old.written) (Some self.new.written) result piece.now }
         ensures later { self.old.calls.faults ≤ self.new.calls.faults }
         ensures cause { IfErr result (λ e. e ≡ SinkFault.Failed → Rose self.old.calls.faults self.new.calls.faults) }
@@ -61,13 +64,29 @@ impl Sink for MemSink {
         ensures err { OnErr result (self.new ≡ after_refusal self.old) }
         ensures failed { IfErr result (λ e. e ≡ SinkFault.Failed → is_to_fail self.old.calls ≡ true) }
         ensures short { IfErr result (λ e. e ≡ SinkFault.Memory → is_to_fail self.old.calls ≡ false) }
+        ensures empty { length piece.now ≡ 0 → is_to_fail self.old.calls ≡ false → IsOk result }
     {
         if self.calls.begin() {
             return Err(SinkFault::Failed);
         }
-        match self.bytes.extend_from_slice(piece) {
+        match append(self.alloc, &mut self.bytes, piece) {
             Ok(()) => Ok(piece.len()),
             Err(_) => Err(SinkFault::Memory),
         }
+    }
+}
+
+/// Appends a piece. An empty one takes no memory, and a refused call changes nothing.
+pub(crate) fn append(alloc: Global, bytes: &mut Bytes, piece: &[u8]) -> Result<(), NoMemory>
+    ensures ok { OnOk result (bytes.new ≡ bytes.old ++ piece.now) }
+    ensures err { OnErr result (bytes.new ≡ bytes.old) }
+    ensures empty { length piece.now ≡ 0 → IsOk result }
+{
+    let mut items = mem::replace(bytes, Bytes::new(alloc)).into_vec();
+    let appended = items.extend_from_slice(piece);
+    *bytes = Bytes::from_vec(items);
+    match appended {
+        Ok(()) => Ok(()),
+        Err(_) => Err(NoMemory),
     }
 }

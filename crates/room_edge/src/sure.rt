@@ -3,6 +3,7 @@ ghost use Rattle.std.specs.Io.{ReadsAtMost, WritesAtMost};
 ghost use Rattle.std.specs.Io.KnownBytes.{ReadConsumes, WriteAppends};
 
 use crate::edge::{Failed, Sink, SinkFault, Source};
+use crate::sink::append;
 use crate::source::take_from;
 use room_json::Bytes;
 use std::alloc::Global;
@@ -53,7 +54,8 @@ impl Source for SureSource {
 /// A sink that keeps what it is given and never fails.
 #[derive(Drop)]
 pub struct SureSink {
-    bytes: Vec<u8>,
+    alloc: Global,
+    bytes: Bytes,
 }
 
 impl Model for SureSink {
@@ -61,7 +63,7 @@ impl Model for SureSink {
 
     ghost Value = { List ℕ };
 
-    ghost view = { λ s. s.bytes.items };
+    ghost view = { λ s. s.bytes };
 }
 
 impl SureSink {
@@ -70,15 +72,16 @@ impl SureSink {
         ensures { result ≡ [] }
     {
         SureSink {
-            bytes: Vec::new(alloc),
+            alloc,
+            bytes: Bytes::new(alloc),
         }
     }
 
     /// All that was written.
-    pub fn written(&self) -> &[u8]
+    pub fn written(&self) -> &Bytes
         ensures { result.now ≡ self.now }
     {
-        self.bytes.as_slice()
+        &self.bytes
     }
 }
 
@@ -88,16 +91,16 @@ impl Sink for SureSink {
     ghost faults = { λ _. 0 };
 
     fn write(&mut self, piece: &[u8]) -> Result<usize, SinkFault>
-        requires { 0 < length piece.now }
         ensures bound { WritesAtMost result piece.now }
-        ensures some { IfOk result (λ n. 0 < n) }
+        ensures some { 0 < length piece.now → IfOk result (λ n. 0 < n) }
         ensures bytes { WriteAppends (Some self.old) (Some self.new) result piece.now }
         ensures sure { IfErr result (λ e. e ≡ SinkFault.Memory) }
+        ensures empty { length piece.now ≡ 0 → IsOk result }
         ensures whole { IfOk result (λ n. n ≡ length piece.now) }
         ensures ok { OnOk result (self.new ≡ self.old ++ piece.now) }
         ensures err { OnErr result (self.new ≡ self.old) }
     {
-        match self.bytes.extend_from_slice(piece) {
+        match append(self.alloc, &mut self.bytes, piece) {
             Ok(()) => Ok(piece.len()),
             Err(_) => Err(SinkFault::Memory),
         }

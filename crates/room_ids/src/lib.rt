@@ -7,6 +7,7 @@ mod makers;
 mod numerals;
 mod order;
 mod places;
+mod sound;
 mod spelling;
 #[cfg(test)]
 mod tests;

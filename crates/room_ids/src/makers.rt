@@ -6,10 +6,8 @@ use room_json::NoMemory;
 fn add(made: &mut Vec<u8>, c: u8) -> Result<(), NoMemory>
     ensures { OnOk result (made.new.items ≡ made.old.items ++ c ∷ []) }
 {
-    match made.push(c) {
-        Ok(()) => Ok(()),
-        Err(_) => Err(NoMemory),
-    }
+    made.push(c)?;
+    Ok(())
 }
 
 pub(crate) fn push_after(made: &mut Vec<u8>, x: &[u8]) -> Result<(), NoMemory>

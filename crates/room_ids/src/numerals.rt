@@ -1,4 +1,4 @@
-ghost use Rattle.std.specs.Prelude.{◌≡◌, ◌≤◌, ◌++◌, OnOk, IfSome};
+ghost use Rattle.std.specs.Prelude.{◌≡◌, ◌≤◌, ◌++◌, OnOk, OnErr, IfSome};
 ghost use Rattle.std.specs.Fmt.{decimal};
 ghost use Rattle.room_ids.specs.Ids.{is_number, number_in};
 
@@ -62,12 +62,11 @@ fn value_up_to(t: &[u8], most: u64) -> Option<u64>
     Some(value)
 }
 
-/// Writes a number in decimal digits behind a text.
+/// Writes a number in decimal digits behind a text. A refused call changes nothing.
 pub fn push_number(alloc: Global, text: &mut Text, number: u64) -> Result<(), NoMemory>
-    ensures { OnOk result (text.new ≡ text.old ++ decimal number) }
+    ensures ok { OnOk result (text.new ≡ text.old ++ decimal number) }
+    ensures err { OnErr result (text.new ≡ text.old) }
 {
-    match number.to_string(alloc) {
-        Ok(digits) => text.push_str(digits.as_str()),
-        Err(_) => Err(NoMemory),
-    }
+    let digits = number.to_string(alloc)?;
+    text.push_str(digits.as_str())
 }

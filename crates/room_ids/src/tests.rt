@@ -1,5 +1,5 @@
 use super::*;
-use room_json::{Copied, Text};
+use room_json::{Copied, Sound, Text};
 use std::alloc::Global;
 use std::cmp::Ordering;
 use std::test::Fail;
@@ -47,6 +47,7 @@ fn ids_are_read_and_written(rt: HostRuntime) -> Result<(), Fail> {
         };
         assert_eq!(rt; id.text(alloc)?.as_str(), text);
         assert!(rt; same_id(&id, &id));
+        id.sound();
     }
     let Some(stamp) = Stamp::new(1, 20) else {
         return Err(Fail::new("no stamp"));
@@ -57,6 +58,7 @@ fn ids_are_read_and_written(rt: HostRuntime) -> Result<(), Fail> {
         Ordering::Less
     );
     assert!(rt; same_op(&OpId(stamp), &OpId(stamp)));
+    OpId(stamp).sound();
     assert!(rt; Stamp::new(1, 9_007_199_254_740_992).is_none());
     Ok(())
 }
@@ -69,6 +71,7 @@ fn positions_are_read(rt: HostRuntime) -> Result<(), Fail> {
         assert!(rt; Pos::read(alloc, &Text::from_str(alloc, text)?)?.is_none());
     }
     let pos = place(alloc, " ~")?;
+    pos.sound();
     assert_eq!(rt; compare_places(&pos, &pos.copy(alloc)?), Ordering::Equal);
     assert!(rt; !Pos::is_pos(tildes(alloc, 4097)?.as_bytes()));
     let Some(longest) = Pos::read(alloc, &tildes(alloc, 4096)?)? else {

@@ -32,6 +32,8 @@ impl<T: Tree> Tree for Counted<T> {
 
     ghost formed = { λ t. T.formed t.tree };
 
+    ghost sound = { λ t. T.sound t.tree };
+
     fn empty(alloc: Global) -> Result<Counted<T>, NoMemory> {
         let tree = T::empty(alloc)?;
         Ok(Counted {

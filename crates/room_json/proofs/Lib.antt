@@ -1,4 +1,5 @@
 pub mod Again
+pub mod AlwaysJson
 pub mod Wholes
 pub mod TextsAreUtf8
 pub mod Spelled

@@ -1,17 +1,20 @@
 -- The values that a `Json` can stand for.
-use Rattle.std.specs.Prelude.{◌≤ℤ◌, ℕ, pos, negsuc, List, ⊤, IsUtf8}
+use Rattle.std.specs.Prelude.{◌≤ℤ◌, ℕ, ℤ, pos, negsuc, List, ⊤, IsUtf8}
 use Rattle.std.specs.Cmp.Lexicographic.{slice_cmp}
 use Rattle.std.specs.List.Sorted.{IsStrictlySortedBy}
 use Rattle.std.specs.Map.{keys_of}
 use Rattle.std.specs.Ordering.{nat_cmp}
 use Rattle.room_json.specs.Value.{Value, nothing, flag, whole, text, list, members, Values, no_values, value, Fields, no_fields, field, fields_of, fields_list}
 
+abbrev pub IsWhole : ℤ → Type 0
+IsWhole z = (negsuc 9007199254740990 ≤ℤ z) × (z ≤ℤ pos 9007199254740991)
+
 -- whole numbers in their range, texts in UTF-8, distinct names in byte order
 abbrev mutual
   pub IsJson : Value → Type 0
   IsJson nothing = ⊤
   IsJson (flag b) = ⊤
-  IsJson (whole z) = (negsuc 9007199254740990 ≤ℤ z) × (z ≤ℤ pos 9007199254740991)
+  IsJson (whole z) = IsWhole z
   IsJson (text s) = IsUtf8 s
   IsJson (list vs) = AreJson vs
   IsJson (members fs) = IsStrictlySortedBy (slice_cmp nat_cmp) (keys_of (fields_list fs)) × HaveJson fs
@@ -25,6 +28,6 @@ abbrev mutual
   HaveJson (field k v fs) = IsUtf8 k × IsJson v × HaveJson fs
 
 -- the members of an object
-pub record AreSoundMembers (fs : List (List ℕ × Value)) : Type 0 where
-  pub ordered : IsStrictlySortedBy (slice_cmp nat_cmp) (keys_of fs)
-  pub json : HaveJson (fields_of fs)
+pub record AreSoundMembers (ms : List (List ℕ × Value)) : Type 0 where
+  pub ordered : IsStrictlySortedBy (slice_cmp nat_cmp) (keys_of ms)
+  pub json : HaveJson (fields_of ms)

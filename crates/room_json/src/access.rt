@@ -1,6 +1,7 @@
 //! What a value is, where it is that.
-ghost use Rattle.std.specs.Prelude.{◌≡◌, option_map};
+ghost use Rattle.std.specs.Prelude.{◌≡◌, IfSome};
 ghost use Rattle.std.specs.Option.{option_copied};
+ghost use Rattle.room_json.specs.Profile.{IsWhole};
 ghost use Rattle.room_json.specs.Value.{as_flag, as_list, as_members, as_text, as_whole};
 ghost use Rattle.room_json.specs.View.{json_of};
 
@@ -41,7 +42,8 @@ impl Json {
 
     /// The number, where this is one.
     pub fn as_int(&self) -> Option<i64>
-        ensures { result ≡ as_whole (json_of self.now) }
+        ensures value { result ≡ as_whole (json_of self.now) }
+        ensures bound { IfSome result IsWhole }
     {
         match self {
             Json::Int(whole) => Some(whole.get()),

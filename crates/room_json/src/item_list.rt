@@ -3,6 +3,7 @@ ghost use Rattle.std.specs.Prelude.{◌≡◌, ◌++◌, [], ◌∷◌, length, 
 ghost use Rattle.std.specs.Option.{option_copied};
 
 use crate::memory::NoMemory;
+use crate::sound::Sound;
 use crate::tree::{Items, Json};
 use std::alloc::Global;
 
@@ -24,10 +25,9 @@ impl Items {
         ensures ok { OnOk result (self.new ≡ self.old ++ json_of item ∷ []) }
         ensures err { OnErr result (self.new ≡ self.old) }
     {
-        match self.items.push(item) {
-            Ok(()) => Ok(()),
-            Err(_) => Err(NoMemory),
-        }
+        item.sound();
+        self.items.push(item)?;
+        Ok(())
     }
 
     /// How many values there are.

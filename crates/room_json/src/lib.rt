@@ -15,6 +15,7 @@ mod objects;
 mod parse;
 mod reading;
 mod sending;
+mod sound;
 #[cfg(test)]
 mod tests;
 mod tree;
@@ -29,5 +30,6 @@ pub use numbers::Whole;
 pub use objects::{field, put, whole, whole_u64};
 pub use parse::read;
 pub use reading::JsonFault;
+pub use sound::Sound;
 pub use tree::{Items, Json, Members};
 pub use utf8::{Text, TextFault};

@@ -86,10 +86,8 @@ impl<T: Drop> Seq<T> {
         ensures ok { OnOk result (self.new ≡ insert self.old at item) }
         ensures err { OnErr result (self.new ≡ self.old) }
     {
-        match self.items.insert(at, item) {
-            Ok(()) => Ok(()),
-            Err(_) => Err(NoMemory),
-        }
+        self.items.insert(at, item)?;
+        Ok(())
     }
 
     /// Appends an item. A refused call changes nothing.
@@ -97,10 +95,8 @@ impl<T: Drop> Seq<T> {
         ensures ok { OnOk result (self.new ≡ self.old ++ item ∷ []) }
         ensures err { OnErr result (self.new ≡ self.old) }
     {
-        match self.items.push(item) {
-            Ok(()) => Ok(()),
-            Err(_) => Err(NoMemory),
-        }
+        self.items.push(item)?;
+        Ok(())
     }
 }
 

@@ -9,6 +9,7 @@ ghost use Rattle.std.specs.Ordering.{nat_cmp};
 ghost use Rattle.room_json.specs.View.{json_of, members_view};
 
 use crate::memory::NoMemory;
+use crate::sound::Sound;
 use crate::tree::{Json, Members};
 use crate::utf8::Text;
 use std::alloc::Global;
@@ -68,10 +69,9 @@ impl Members {
         ensures old { IfOk result (λ o. option_map json_of o ≡ lookup (is_at (slice_cmp nat_cmp name)) self.old) }
         ensures err { OnErr result (self.new ≡ self.old) }
     {
-        match self.entries.insert(name, value) {
-            Ok(old) => Ok(old),
-            Err(_) => Err(NoMemory),
-        }
+        name.sound();
+        value.sound();
+        Ok(self.entries.insert(name, value)?)
     }
 
     /// Removes a name, and answers the value that it had.

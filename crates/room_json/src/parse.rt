@@ -19,6 +19,17 @@ enum Misread {
     Number,
 }
 
+impl From<NoMemory> for Misread {
+    ghost use Rattle.std.specs.Prelude.{◌≡◌};
+    ghost use Rattle.room_json.specs.declared.parse.Misread.TheVariants.{Memory};
+
+    ghost from_gives = { λ _ e. e ≡ Memory };
+
+    fn from(_error: NoMemory) -> Misread {
+        Misread::Memory
+    }
+}
+
 /// Reads a value of the profile.
 ///
 /// `NotJson` where `serde_json` reads nothing from the bytes, `TooDeep` with the depth where it is over 60,
@@ -95,10 +106,7 @@ fn items_from(alloc: Global, values: Vec<Value>) -> Result<Items, Misread>
 {
     let mut items = Items::new(alloc);
     for value in values {
-        let item = json_from(alloc, value)?;
-        if items.push(item).is_err() {
-            return Err(Misread::Memory);
-        }
+        items.push(json_from(alloc, value)?)?;
     }
     Ok(items)
 }
@@ -110,10 +118,7 @@ fn members_from(alloc: Global, map: Map<String, Value>) -> Result<Members, Misre
 {
     let mut members = Members::new(alloc);
     for (name, value) in map {
-        let value = json_from(alloc, value)?;
-        if members.set(Text::from_string(name), value).is_err() {
-            return Err(Misread::Memory);
-        }
+        drop(members.set(Text::from_string(name), json_from(alloc, value)?)?);
     }
     Ok(members)
 }

@@ -113,6 +113,7 @@ fn members(rt: HostRuntime) -> Result<(), Fail> {
     )?;
     merge(rt.alloc(), &mut members, &patch)?;
     let all = Json::Object(members.copy(rt.alloc())?);
+    all.sound();
     assert_eq!(rt;
         write(rt.alloc(), &all.copy(rt.alloc())?)?.as_str(),
         "{\"a\":[],\"b\":null,\"c\":9007199254740991}"
@@ -141,6 +142,9 @@ fn lists_and_texts(rt: HostRuntime) -> Result<(), Fail> {
         Text::from_bytes(rt.alloc(), b"\xff").err(),
         Some(TextFault::NotUtf8)
     );
+    let mut names = Names::new(rt.alloc());
+    names.push(text.copy(rt.alloc())?)?;
+    names.sound();
     let mut numbers: Seq<u32> = Seq::new(rt.alloc());
     numbers.push(3)?;
     numbers.insert(0, 2)?;

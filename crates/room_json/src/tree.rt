@@ -50,6 +50,11 @@ impl Model for Items {
 
     ghost view = { λ a. map json_of a.items.items };
 
+    ghost use Rattle.room_json.specs.Profile.{AreJson};
+    ghost use Rattle.room_json.specs.Value.{values_of};
+
+    ghost invariant = { λ a. AreJson (values_of (map json_of a.items.items)) };
+
     ghost size = { list_weight };
 
     ghost use Rattle.room_json.specs.Falls.{items_fall};
@@ -70,6 +75,11 @@ impl Model for Members {
     ghost use Rattle.room_json.specs.View.{members_view};
 
     ghost view = { λ a. members_view a.entries.entries };
+
+    ghost use Rattle.room_json.specs.Profile.{HaveJson};
+    ghost use Rattle.room_json.specs.Value.{fields_of};
+
+    ghost invariant = { λ a. HaveJson (fields_of (members_view a.entries.entries)) };
 
     ghost size = { pairs_weight };
 

@@ -17,6 +17,17 @@ pub enum TextFault {
     NotUtf8,
 }
 
+impl From<NoMemory> for TextFault {
+    ghost use Rattle.std.specs.Prelude.{◌≡◌};
+    ghost use Rattle.room_json.specs.declared.utf8.TextFault.TheVariants.{Memory};
+
+    ghost from_gives = { λ _ e. e ≡ Memory };
+
+    fn from(_error: NoMemory) -> TextFault {
+        TextFault::Memory
+    }
+}
+
 /// A text. Contracts see its UTF-8 bytes.
 #[derive(Drop)]
 pub struct Text {
@@ -48,10 +59,7 @@ impl Text {
         ensures memory { IfErr result (λ e. e ≡ TextFault.Memory → IsUtf8 bytes.now) }
     {
         match std::str::from_utf8(bytes) {
-            Ok(text) => match Text::from_str(alloc, text) {
-                Ok(text) => Ok(text),
-                Err(_) => Err(TextFault::Memory),
-            },
+            Ok(text) => Ok(Text::from_str(alloc, text)?),
             Err(_) => Err(TextFault::NotUtf8),
         }
     }
@@ -60,10 +68,8 @@ impl Text {
     pub fn from_str(alloc: Global, text: &str) -> Result<Text, NoMemory>
         ensures { IfOk result (λ t. t ≡ text.now) }
     {
-        match String::from_str(alloc, text) {
-            Ok(inner) => Ok(Text { inner }),
-            Err(_) => Err(NoMemory),
-        }
+        let inner = String::from_str(alloc, text)?;
+        Ok(Text { inner })
     }
 
     pub(crate) fn from_string(inner: String) -> Text
@@ -92,10 +98,8 @@ impl Text {
         ensures ok { OnOk result (self.new ≡ self.old ++ s.now) }
         ensures err { OnErr result (self.new ≡ self.old) }
     {
-        match self.inner.push_str(s) {
-            Ok(()) => Ok(()),
-            Err(_) => Err(NoMemory),
-        }
+        self.inner.push_str(s)?;
+        Ok(())
     }
 
     /// How many bytes the text has.

@@ -1,5 +1,5 @@
 -- What was taken is taken once.
-use Rattle.std.proofs.Common.{◌≡◌, ℕ, zero, suc, ◌+◌, ◌<◌, ◌≤◌, Bool, true, false, cond, nat_lt, List, [], ◌∷◌, length, Option, Some, None, refl, sym, ap, ◌∙◌, arith, ◌==◌}
+use Rattle.std.proofs.Common.{◌≡◌, ℕ, zero, suc, ◌+◌, ◌<◌, ◌≤◌, Bool, true, false, cond, nat_lt, List, [], ◌∷◌, length, Option, Some, None, refl, ap, ◌∙◌, arith, ◌==◌}
 use Rattle.std.specs.Prelude.{slice_get, slice_set}
 use Rattle.std.proofs.lemmas.Bool.{eqb-true, eqb-false, ltb-true, ltb-false}
 use Rattle.std.proofs.lemmas.Bool.Decides.{nat_tests}
@@ -26,7 +26,7 @@ bodies_length (o ∷ os) = ap suc (bodies_length os)
 
 -- operations up to m leave nothing beyond m
 
-kept_none : (b : Bool) (e c : ℕ) (g : Option (ℕ × ℕ)) → cond b g (Some (e, c)) ≡ None → (b ≡ true) × (g ≡ None)
+pub kept_none : (b : Bool) (e c : ℕ) (g : Option (ℕ × ℕ)) → cond b g (Some (e, c)) ≡ None → (b ≡ true) × (g ≡ None)
 kept_none true e c g p = (refl, p)
 kept_none false e c g p = cc
 
@@ -64,28 +64,26 @@ last_with ss zero c s p = cc
 last_with ss (suc i) c s p = last_set ss i c s (slice_get ss i) refl p
 
 -- what an update that is taken says of the operations that were left
-record Took (s : State) (a : ℕ) (rest : List Op) (gap : Option (ℕ × ℕ)) (u : Update) : Type 0 where
-  none : gap ≡ None
-  actor : u.actor ≡ a
-  some : 0 < length rest
-  first : (e : ℕ) → gap_in e rest ≡ None → u.first ≡ e
-  count : length u.bodies ≡ length rest
+pub record Took (s : State) (a : ℕ) (rest : List Op) (gap : Option (ℕ × ℕ)) (u : Update) : Type 0 where
+  pub none : gap ≡ None
+  pub actor : u.actor ≡ a
+  pub some : 0 < length rest
+  pub first : (e : ℕ) → gap_in e rest ≡ None → u.first ≡ e
+  pub count : length u.bodies ≡ length rest
 
-first_clock : (o : Op) (os : List Op) (e : ℕ) → gap_in e (o ∷ os) ≡ None → clock_of o ≡ e
+pub first_clock : (o : Op) (os : List Op) (e : ℕ) → gap_in e (o ∷ os) ≡ None → clock_of o ≡ e
 first_clock o os e p = eqb-true (clock_of o) e (kept_none (clock_of o == e) e (clock_of o) (gap_in (e + 1) os) p).0
 
-takes_of : (s : State) (a : ℕ) (rest : List Op) (gap : Option (ℕ × ℕ)) (u : Update) → taken_rest s a rest gap ≡ Takes u → Took s a rest gap u
+pub takes_of : (s : State) (a : ℕ) (rest : List Op) (gap : Option (ℕ × ℕ)) (u : Update) → taken_rest s a rest gap ≡ Takes u → Took s a rest gap u
 takes_of s a [] gap u p = cc
 takes_of s a (o ∷ os) (Some g) u p = cc
-takes_of s a (o ∷ os) None u p =
-    let q : record { actor = a; first = clock_of o; bodies = settle_all s.tree (bodies_of (o ∷ os)) } ≡ u = cc in
-    record {
-      none = refl;
-      actor = sym (ap (λ (v : Update). v.actor) q);
-      some = omega arith;
-      first = λ e g. sym (ap (λ (v : Update). v.first) q) ∙ first_clock o os e g;
-      count = sym (ap (λ (v : Update). length v.bodies) q) ∙ settle_length s.tree (bodies_of (o ∷ os)) ∙ bodies_length (o ∷ os);
-    }
+takes_of s a (o ∷ os) None u p = record {
+  none = refl;
+  actor = cc;
+  some = omega arith;
+  first = λ e g. let q = first_clock o os e g in cc;
+  count = cc (settle_length s.tree (bodies_of (o ∷ os)), bodies_length (o ∷ os));
+}
 
 nothing_left : (s : State) (a : ℕ) (rest : List Op) (gap : Option (ℕ × ℕ)) → rest ≡ [] → taken_rest s a rest gap ≡ Nothing
 nothing_left s a [] gap p = refl

@@ -1,6 +1,5 @@
 -- Which entries follow a state, as a test; which states and logs are valid.
 use Rattle.std.specs.Prelude.{◌≡◌, ◌≤◌, ◌<◌, ◌+◌, ◌==◌, ℕ, suc, Bool, true, false, ◌&&◌, nat_le, nat_lt, List, [], ◌∷◌, length, Option, Some, None, IsUtf8}
-use Rattle.room_nodes.specs.declared.nodes.Body.{Body}
 use Rattle.room_nodes.specs.Equal.{same_bodies}
 use Rattle.room_nodes.specs.Shallow.{AreShallow, IsShallowTree, all_shallow}
 use Rattle.room_nodes.specs.Shape.{IsFormed}
@@ -16,8 +15,8 @@ most = 9007199254740991
 abbrev pub most_actor : ℕ
 most_actor = 4294967295
 
--- an update of a session: its clocks run on from the session's last, it has an operation, each operation is settled on the
--- tree before it, no value is too deep, and neither the last clock nor the number of updates passes its bound
+-- an update of a session: its clocks run on from the session's last, it has an operation, each operation is settled on
+-- the tree before it, no value is too deep, and neither the last clock nor the number of updates passes its bound
 abbrev pub follows_session : State → Update → Option Session → Bool
 follows_session s u None = false
 follows_session s u (Some session) =

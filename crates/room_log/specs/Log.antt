@@ -11,26 +11,28 @@ pub record Session : Type 0 where
   pub last : ℕ
   pub name : List ℕ
 
--- the number of updates, the sessions of actor 1, 2, .., and the tree
+-- the number of updates so far, the sessions of actors 1, 2, .. in order, and the tree
 pub record State : Type 0 where
   pub count : ℕ
   pub sessions : List Session
   pub tree : Nodes
 
+-- no update, no session, and the tree of the root alone
 abbrev pub empty_state : State
 empty_state = record { count = 0; sessions = []; tree = empty_tree }
 
--- an update: its operation i, counted from 0, has the clock first + i
+-- an update: operations of one actor; its operation i, counted from 0, has the clock first + i
 pub record Update : Type 0 where
   pub actor : ℕ
   pub first : ℕ
   pub bodies : List Body
 
+-- a new session of that actor, with its key and name; or an update
 pub data Entry : Type 0 where
   Join : (actor : ℕ) → (key : ℕ) → (name : List ℕ) → Entry
   Updated : Update → Entry
 
--- operations of an actor, whose clocks run on from the first
+-- operations of an actor, whose clocks run on by ones from the first
 
 abbrev pub op_of : ℕ → ℕ → Body → Op
 op_of actor clock b = record { id = record { 0 = record { actor = actor; clock = clock } }; body = b }
@@ -52,7 +54,7 @@ actor_of o = (o.id.0).actor
 abbrev pub clock_of : Op → ℕ
 clock_of o = (o.id.0).clock
 
--- the last of so many clocks, from the first on
+-- the last clock of operations whose first has that clock; there is at least one
 abbrev pub last_from : ℕ → List Body → ℕ
 last_from first bs = first + length bs - 1
 
@@ -78,6 +80,7 @@ key_in (Some s) = s.key
 abbrev pub last_of : List Session → ℕ → ℕ
 last_of ss a = last_in (session_of ss a)
 
+-- the sessions, with another last clock of an actor
 abbrev pub with_last_at : List Session → ℕ → ℕ → Option Session → List Session
 with_last_at ss i c None = ss
 with_last_at ss i c (Some s) = slice_set ss i (record s { last = c })
@@ -102,12 +105,12 @@ abbrev pub after : State → Entry → State
 after s (Join actor key name) = joined s key name
 after s (Updated u) = updated s u
 
--- the state after all entries, in order
+-- the state after all entries in order
 abbrev pub state_after : State → List Entry → State
 state_after s [] = s
 state_after s (e ∷ es) = state_after (after s e) es
 
--- the updates alone, and the tree and an actor's clock after them
+-- the updates alone, in order, and what they make of a tree and of an actor's last clock
 
 abbrev pub updates_of : List Entry → List Update
 updates_of [] = []
@@ -122,10 +125,10 @@ abbrev pub last_after : ℕ → ℕ → List Update → ℕ
 last_after a last [] = last
 last_after a last (u ∷ us) = last_after a (if u.actor == a then last_from u.first u.bodies else last) us
 
--- the tree after the update numbered n, which isn't below the number of the opening state
+-- the tree after the update numbered n; numbers go on from the opening state's, and n isn't below that
 abbrev pub tree_at : State → List Entry → ℕ → Nodes
 tree_at s log n = tree_after s.tree (take (n - s.count) (updates_of log))
 
--- an actor's last clock after the update numbered n
+-- an actor's last clock after the update numbered n, likewise
 abbrev pub last_at : State → List Entry → ℕ → ℕ → ℕ
 last_at s log n a = last_after a (last_of s.sessions a) (take (n - s.count) (updates_of log))

@@ -6,18 +6,19 @@ pub fn taken_once()
     ensures { TakenOnce }
 {}
 
-/// What is taken of a session's operations follows the state.
+/// What is taken of a session's operations follows a valid state. They are sound and not too deep, and the number of
+/// updates has room for one more.
 pub fn taken_follows()
     ensures { TakenFollows }
 {}
 
-/// The test of an update says that its session is known, its clocks run on, its operations are settled, its values are
-/// not too deep, and its last clock and the number of updates are within their bounds.
+/// The test of an update says that its session is known, its clocks run on, it has an operation, its operations are
+/// settled, its values are not too deep, and its last clock and the number of updates are within their bounds.
 pub fn follows_exactly()
     ensures { FollowsExactly }
 {}
 
-/// A valid entry leads from a valid state to a valid state, and a valid log does.
+/// The empty state is valid. A valid entry leads from a valid state to a valid state, and a valid log does.
 pub fn valid_after()
     ensures { ValidAfter }
 {}

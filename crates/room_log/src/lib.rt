@@ -1,5 +1,5 @@
-//! The log of a room: sessions, states, updates and entries; what a server takes of the operations that a session sends;
-//! which entries follow a state.
+//! The log of a room: sessions, states, updates and entries; what a server takes of the operations that a session
+//! sends; which entries follow a state.
 //!
 //! Definitions, and laws of these.
 #![tactic(auto)]

@@ -15,6 +15,6 @@
 //! The laws of runs stand above, in `room_laws`.
 #![tactic(auto)]
 
-mod samples;
+mod cases;
 
-pub use samples::samples;
+pub use cases::samples;

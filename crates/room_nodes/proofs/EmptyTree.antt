@@ -8,10 +8,10 @@ use Rattle.room_ids.specs.declared.ids.NodeId.{NodeId}
 use Rattle.room_ids.specs.declared.ids.NodeId.TheVariants.{Root}
 use Rattle.room_nodes.specs.declared.nodes.Node.{Node}
 
-read : (q : NodeId) → get empty_tree q ≡ cond (is_same q Root) (Some bare_root) None
+pub read : (q : NodeId) → get empty_tree q ≡ cond (is_same q Root) (Some bare_root) None
 read q = get-from_sorted node_cmp ((Root, bare_root) ∷ []) q tt
 
-nothing : (x : NodeId) (n : Node) → x ≢ Root → get empty_tree x ≡ Some n → ⊥
+pub nothing : (x : NodeId) (n : Node) → x ≢ Root → get empty_tree x ≡ Some n → ⊥
 nothing x n other e = some_none n (sym e ∙ read x ∙ ap (λ b. cond b (Some bare_root) None) (differ x Root other))
 
 pub formed-empty : IsFormed empty_tree

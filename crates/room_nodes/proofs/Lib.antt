@@ -11,6 +11,8 @@ pub mod Listing
 pub mod Places
 pub mod Putting
 pub mod Settling
+pub mod SoundOnce
+pub mod Soundness
 pub mod StepForm
 pub mod Steps
 pub mod Tours

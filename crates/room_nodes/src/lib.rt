@@ -5,6 +5,7 @@ mod cells;
 mod copies;
 mod laws;
 mod nodes;
+mod sound;
 #[cfg(test)]
 mod tests;
 mod turns;

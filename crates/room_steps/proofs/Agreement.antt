@@ -21,12 +21,13 @@ use Rattle.room_nodes.proofs.Fitting.{some_of}
 use Rattle.room_nodes.proofs.Gets.{get_here, get_other, here_or_old, one_or_two, same_self, some_inj, true_false}
 use Rattle.room_nodes.proofs.StepForm.{at_node}
 use Rattle.room_nodes.proofs.Steps.{neither, not_false, can_set_key, formed-step}
-use Rattle.room_steps.proofs.Booleans.{or_left, none_of_both}
+use Rattle.room_steps.proofs.Booleans.{or_left}
 use Rattle.room_steps.proofs.Alike.{Alike, alike_some, has_room_same, holds_list_same, holds_object_same, parent_same, some_same, under_same}
+use Rattle.room_steps.proofs.Changing.{Kept, found_in}
 use Rattle.room_steps.proofs.Covering.{Agrees-append}
 use Rattle.room_steps.proofs.Creations.{out_by, out_of, placed_same, framed_create, local_in_list, local_at_key}
-use Rattle.room_steps.proofs.Touching.{Framed, Kept, cover_more, cover_refl}
-use Rattle.room_steps.proofs.Framing.{node_put, slot_put}
+use Rattle.room_steps.proofs.Touching.{Framed}
+use Rattle.room_steps.proofs.Framing.{kept_put}
 use Rattle.room_steps.proofs.Kin.{same_child, same_children}
 use Rattle.room_steps.proofs.Operations.{IsFramed, IsLocal, framed_void, framed_live, local_void, local_live, framed_delete, framed_delete_key, framed_update, local_delete, local_delete_key, local_update, writes_by}
 use Rattle.room_steps.proofs.Restoring.{step_acts}
@@ -53,7 +54,7 @@ module _ (t : Nodes) (f : IsFormed t) (x : NodeId) (k : List ℕ) (e : is_void t
   made = (can_set_key t f x k e).made
 
   off_parent : (q : NodeId) (j : List ℕ) → overlaps_some (Slot q j) (All (up t x) ∷ NodeOf x ∷ []) ≡ false → n.parent ≢ q
-  off_parent q j off h = true_false (sym (ap (λ z. is_same z (up t x)) (sym h ∙ sym above) ∙ same_self (up t x)) ∙ (none_of_both (is_same q (up t x)) _ off).0)
+  off_parent q j off h = true_false (sym (ap (λ z. is_same z (up t x)) (sym h ∙ sym above) ∙ same_self (up t x)) ∙ (neither (is_same q (up t x)) _ off).0)
 
   moved_framed : Framed t moved (All (up t x) ∷ NodeOf x ∷ [])
   moved_framed = record {
@@ -78,9 +79,6 @@ module _ (t : Nodes) (f : IsFormed t) (x : NodeId) (k : List ℕ) (e : is_void t
     );
   }
     where
-      found_in : List ℕ → Option Node → Option Value
-      found_in j o = find (slice_cmp nat_cmp) j (fields_in o)
-
       fields : List ℕ → Nodes → NodeId → Option Value
       fields j v q = find (slice_cmp nat_cmp) j (fields_in (get v q))
 
@@ -111,11 +109,9 @@ module _ (t u : Nodes) (f : IsFormed t) (g : IsFormed u) (x : NodeId) (k : List 
       let fields : (j : List ℕ) → SameSlot t u x j → find (slice_cmp nat_cmp) j (kind_fields n.0.kind) ≡ find (slice_cmp nat_cmp) j (kind_fields m.0.kind) =
       λ j s. sym (ap (λ o. find (slice_cmp nat_cmp) j (fields_in o)) n.1) ∙ s.0 ∙ ap (λ o. find (slice_cmp nat_cmp) j (fields_in o)) m.1 in
       local_live t u (SetKey x k) e d
-      (subst (λ (v : Nodes). Kept t u v (effect u (settled_body u (SetKey x k)))) (sym (moved_is t f x k e n.0 n.1)) (subst (Kept t u (moved t f x k e n.0 n.1)) (sym (moved_is u g x k d m.0 m.1)) (record {
-        node = node_put t u f g x _ _ one a b fields;
-        slot = slot_put t u f g x _ _ one a b fields;
-      })))
-      (cover_more (All (up t x)) (All (up u x)) _ _ (ap All ups) (cover_refl (NodeOf x ∷ [])))
+      (subst (λ (v : Nodes). Kept t u v (effect u (settled_body u (SetKey x k)))) (sym (moved_is t f x k e n.0 n.1)) (subst (Kept t u (moved t f x k e n.0 n.1)) (sym (moved_is u g x k d m.0 m.1))
+      (kept_put t u f g x _ _ one a b fields (λ h. h x n.0 m.0 n.1 m.1))))
+      (ap (λ p. All p ∷ NodeOf x ∷ []) ups)
 
 -- whether an operation is void is read of its cells
 
@@ -129,20 +125,20 @@ create_same a r false q a2 r2 l2 q2 p s h k = rw (p, s, sym h) refl
 
 module _ (t u : Nodes) (f : IsFormed t) (g : IsFormed u) where
   -- what is read of x, and of its parent where it is there
-  record AgreesAbove (x : NodeId) : Type 0 where
-    node : Alike (get t x) (get u x)
-    above : is_some (get t x) ≡ true → Alike (get t (up t x)) (get u (up t x))
+  pub record AgreesAbove (x : NodeId) : Type 0 where
+    pub node : Alike (get t x) (get u x)
+    pub above : is_some (get t x) ≡ true → Alike (get t (up t x)) (get u (up t x))
 
-  delete_by : (x : NodeId) (o : Option Node) → get t x ≡ o → Agrees t u (delete_reads x o) → AgreesAbove x
+  pub delete_by : (x : NodeId) (o : Option Node) → get t x ≡ o → Agrees t u (delete_reads x o) → AgreesAbove x
   delete_by x None e h = record { node = h.0; above = λ s. absurd (true_false (sym s ∙ ap is_some e)) }
   delete_by x (Some n) e h = record { node = h.0; above = λ s. subst (λ p. Alike (get t p) (get u p)) (sym (ap parent_of e)) h.1.0 }
 
-  record AgreesBeside (x : NodeId) : Type 0 where
-    node : Alike (get t x) (get u x)
-    above : is_some (get t x) ≡ true → Alike (get t (up t x)) (get u (up t x))
-    slots : is_some (get t x) ≡ true → holds_list (get t (up t x)) ≡ true → (j : List ℕ) → SameSlot t u (up t x) j
+  pub record AgreesBeside (x : NodeId) : Type 0 where
+    pub node : Alike (get t x) (get u x)
+    pub above : is_some (get t x) ≡ true → Alike (get t (up t x)) (get u (up t x))
+    pub slots : is_some (get t x) ≡ true → holds_list (get t (up t x)) ≡ true → (j : List ℕ) → SameSlot t u (up t x) j
 
-  set_key_by : (x : NodeId) (o : Option Node) → get t x ≡ o → Agrees t u (set_key_reads t x o) → AgreesBeside x
+  pub set_key_by : (x : NodeId) (o : Option Node) → get t x ≡ o → Agrees t u (set_key_reads t x o) → AgreesBeside x
   set_key_by x None e h = record { node = h.0; above = λ s. absurd (true_false (sym s ∙ ap is_some e)); slots = λ s. absurd (true_false (sym s ∙ ap is_some e)) }
   set_key_by x (Some n) e h =
       let is : up t x ≡ n.parent = ap parent_of e in

@@ -21,11 +21,6 @@ alike_some None w e n h = absurd (some_none n (sym h))
 alike_some (Some a) None e n h = absurd (some_none (bare a) e)
 alike_some (Some a) (Some b) e n h = (b, refl, ap bare (some_inj n a (sym h)) ∙ some_inj (bare a) (bare b) e)
 
-pub alike_none : (o w : Option Node) → Alike o w → o ≡ None → w ≡ None
-alike_none o None e h = refl
-alike_none None (Some b) e h = absurd (some_none (bare b) (sym e))
-alike_none (Some a) (Some b) e h = absurd (some_none a h)
-
 pub by_alike : {A : Type 0} (h : Option Node → A) → ((n k : Node) → bare n ≡ bare k → h (Some n) ≡ h (Some k)) → (o w : Option Node) → Alike o w → h o ≡ h w
 by_alike h f None None e = refl
 by_alike h f None (Some b) e = absurd (some_none (bare b) (sym e))

@@ -1,5 +1,5 @@
 -- A tree of which nodes went and one node's fields changed, and a tree into which a node was put: what stays, and what agrees.
-use Rattle.std.proofs.Common.{◌≡◌, ℕ, Bool, true, false, cond, List, [], Option, Some, None, option_map, refl, sym, ap, ◌∙◌}
+use Rattle.std.proofs.Common.{◌≡◌, ◌⊎◌, inl, inr, ℕ, Bool, true, false, cond, List, [], Option, Some, None, option_map, refl, sym, ap, ◌∙◌, subst}
 use Rattle.std.specs.Cmp.Lexicographic.{slice_cmp}
 use Rattle.std.specs.FinMap.{get, find}
 use Rattle.std.specs.Ordering.{nat_cmp}
@@ -8,6 +8,7 @@ use Rattle.room_ids.specs.Order.{is_same}
 use Rattle.room_ids.specs.declared.ids.NodeId.{NodeId}
 use Rattle.room_ids.specs.declared.ids.NodeId.TheVariants.{Root}
 use Rattle.room_nodes.specs.Cells.{SameSlot, bare, field_at}
+use Rattle.room_nodes.specs.Ordered.{AreOrdered, IsOrderedKind}
 use Rattle.room_nodes.specs.Primitives.{fields_in, kind_fields}
 use Rattle.room_nodes.specs.Shape.{Nodes, IsFormed, child_at}
 use Rattle.room_nodes.specs.Steps.{fields_kind, holds_object, on_fields}
@@ -17,6 +18,7 @@ use Rattle.room_nodes.specs.declared.nodes.Node.{Node}
 use Rattle.room_nodes.proofs.Gets.{same, some_inj, some_none}
 use Rattle.room_nodes.proofs.StepForm.{FieldsOf}
 use Rattle.room_steps.proofs.Alike.{Alike, bare_fields}
+use Rattle.room_steps.proofs.Keeping.{of_kind}
 use Rattle.room_steps.proofs.Kin.{IsChild, carried, same_child}
 
 -- a change of one node's fields
@@ -89,7 +91,7 @@ bare_left x g q false (Some n) = ap Some (edited_bare (is_same q x) g n)
 abbrev pub IsByName : (FieldsOf → FieldsOf) → Type 0
 IsByName g = (k : List ℕ) (es fs : FieldsOf) → find (slice_cmp nat_cmp) k es ≡ find (slice_cmp nat_cmp) k fs → find (slice_cmp nat_cmp) k (g es) ≡ find (slice_cmp nat_cmp) k (g fs)
 
-abbrev found_in : List ℕ → Option Node → Option Value
+abbrev pub found_in : List ℕ → Option Node → Option Value
 found_in k o = find (slice_cmp nat_cmp) k (fields_in o)
 
 module _ (g : FieldsOf → FieldsOf) (local : IsByName g) (k : List ℕ) where
@@ -125,13 +127,35 @@ module _ (g : FieldsOf → FieldsOf) (local : IsByName g) (k : List ℕ) where
   changed_same (Some m) None h e = sym (none_object m.kind (sym h))
   changed_same (Some m) (Some n) h e = kinds_same m.kind n.kind h e
 
+-- fields that stand in order in both, or are the same
+
+abbrev pub IsMatched : Kind → Kind → Type 0
+IsMatched a b = (IsOrderedKind a × IsOrderedKind b) ⊎ (a ≡ b)
+
+abbrev pub AreMatched : Nodes → Nodes → Type 0
+AreMatched t u = (q : NodeId) (m n : Node) → get t q ≡ Some m → get u q ≡ Some n → IsMatched m.kind n.kind
+
+module _ (g : FieldsOf → FieldsOf) (orders : (fs : FieldsOf) → AreOrdered fs → AreOrdered (g fs)) where
+  matched_kinds : (a b : Kind) → IsMatched a b → IsMatched (fields_kind g a) (fields_kind g b)
+  matched_kinds a b h = elim h [ inl o ↦ inl (of_kind IsOrderedKind g orders a o.0, of_kind IsOrderedKind g orders b o.1) | inr e ↦ inr (ap (fields_kind g) e) ]
+
+  matched_by : (c : Bool) (m n : Node) → IsMatched m.kind n.kind → IsMatched (edited_by c g m).kind (edited_by c g n).kind
+  matched_by true m n h = matched_kinds m.kind n.kind h
+  matched_by false m n h = h
+
+-- what t and u agree on, the two after them agree on
+pub record Kept (t u t2 u2 : Nodes) : Type 0 where
+  pub node : (q : NodeId) → Alike (get t q) (get u q) → Alike (get t2 q) (get u2 q)
+  pub slot : (q : NodeId) (k : List ℕ) → SameSlot t u q k → SameSlot t2 u2 q k
+  pub matched : AreMatched t u → AreMatched t2 u2
+
 pub map_same : (o : Option Node) → option_map (λ (n : Node). n) o ≡ o
 map_same None = refl
 map_same (Some n) = refl
 
 module _ (t u t2 u2 : Nodes) (gt gu : NodeId → Bool) (x : NodeId) (g : FieldsOf → FieldsOf) (a : Acts t t2 gt x g) (b : Acts u u2 gu x g)
-    (gones : (q : NodeId) → gt q ≡ gu q) (f : IsFormed t) (h : IsFormed u) (f2 : IsFormed t2) (h2 : IsFormed u2) (local : IsByName g) (objects : holds_object (get t x) ≡ holds_object (get u x)) where
-  pub node_kept : (q : NodeId) → Alike (get t q) (get u q) → Alike (get t2 q) (get u2 q)
+    (orders : (fs : FieldsOf) → AreOrdered fs → AreOrdered (g fs)) (gones : (q : NodeId) → gt q ≡ gu q) (f : IsFormed t) (h : IsFormed u) (f2 : IsFormed t2) (h2 : IsFormed u2) (local : IsByName g) (objects : holds_object (get t x) ≡ holds_object (get u x)) where
+  node_kept : (q : NodeId) → Alike (get t q) (get u q) → Alike (get t2 q) (get u2 q)
   node_kept q e =
       ap (option_map bare) (a.at q) ∙ bare_left x g q (gt q) (get t q) ∙ ap (λ c. cond c None (option_map bare (get t q))) (gones q) ∙ ap (cond (gu q) None) e
       ∙ sym (bare_left x g q (gu q) (get u q)) ∙ sym (ap (option_map bare) (b.at q))
@@ -152,5 +176,14 @@ module _ (t u t2 u2 : Nodes) (gt gu : NodeId → Bool) (x : NodeId) (g : FieldsO
       (λ y c. let w = child_was t t2 gt x g a q k y c in child_stays u u2 gu x g b q k y (carried t u f q k y e w.0) (sym (gones y) ∙ w.1))
       (λ y c. let w = child_was u u2 gu x g b q k y c in child_stays t t2 gt x g a q k y (carried u t h q k y (sym e) w.0) (gones y ∙ w.1))
 
-  pub slot_kept : (q : NodeId) (k : List ℕ) → SameSlot t u q k → SameSlot t2 u2 q k
+  slot_kept : (q : NodeId) (k : List ℕ) → SameSlot t u q k → SameSlot t2 u2 q k
   slot_kept q k s = (field_kept q k s.0, child_kept q k s.1)
+
+  matched_kept : AreMatched t u → AreMatched t2 u2
+  matched_kept h q m n e d =
+      let v = was_there t t2 gt x g a q m e in
+      let w = was_there u u2 gu x g b q n d in
+      subst (λ (z : Node). IsMatched z.kind n.kind) v.3 (subst (λ (z : Node). IsMatched (edited x g q v.0).kind z.kind) w.3 (matched_by g orders (is_same q x) v.0 w.0 (h q v.0 w.0 v.1 w.1)))
+
+  pub kept_changed : Kept t u t2 u2
+  kept_changed = record { node = node_kept; slot = slot_kept; matched = matched_kept }

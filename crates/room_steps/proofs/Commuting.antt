@@ -18,29 +18,30 @@ use Rattle.room_nodes.specs.declared.nodes.Kind.TheVariants.{Object, List as Lis
 use Rattle.room_nodes.specs.declared.nodes.Node.{Node}
 use Rattle.room_nodes.proofs.Gets.{same, same_self, some_inj, some_none, true_false}
 use Rattle.room_nodes.proofs.Fitting.{both, not_true}
-use Rattle.room_nodes.proofs.Steps.{formed-step, formed-fold}
+use Rattle.room_nodes.proofs.Steps.{formed-step, formed-fold, neither}
 use Rattle.room_steps.specs.Laws.{Outside, Footprints}
 use Rattle.room_nodes.specs.Ordered.{AreOrderedBodies, IsOrderedKind, IsOrderedTree}
-use Rattle.room_steps.proofs.Booleans.{by_no, or_parts, or_left, or_right, none_of_both, and_parts, and_both, and_false}
+use Rattle.room_steps.proofs.Booleans.{by_no, or_parts, or_left, or_right, and_both, and_false}
 use Rattle.room_steps.proofs.Agreement.{framed, local}
 use Rattle.room_steps.proofs.Alike.{Alike, parent_alike, key_alike}
-use Rattle.room_steps.proofs.Covering.{Agrees-append, covered-append, same_name}
-use Rattle.room_steps.proofs.Fields.{key_self, same_fields}
-use Rattle.room_steps.proofs.Touching.{Framed, Kept, CoverSame, cover-append, cover_refl, framed_then, kept_then}
-use Rattle.room_steps.proofs.OrderedSteps.{ordered_step}
+use Rattle.room_steps.proofs.Changing.{AreMatched, Kept}
+use Rattle.room_steps.proofs.Covering.{Agrees-append, covered-append}
+use Rattle.room_steps.proofs.Fields.{key_self, same_fields, same_name}
+use Rattle.room_steps.proofs.Touching.{Framed, framed_then, kept_then}
+use Rattle.room_steps.proofs.OrderedSteps.{ordered_fold}
 
 -- lists of operations
 
 framed_left : (t u : Nodes) (ds es : List Cell) → Framed t u ds → Framed t u (ds ++ es)
 framed_left t u ds es h = record {
-  node = λ q off. h.node q (none_of_both (overlaps_some (NodeOf q) ds) _ (sym (covered-append (NodeOf q) ds es) ∙ off)).0;
-  slot = λ q k off. h.slot q k (none_of_both (overlaps_some (Slot q k) ds) _ (sym (covered-append (Slot q k) ds es) ∙ off)).0;
+  node = λ q off. h.node q (neither (overlaps_some (NodeOf q) ds) _ (sym (covered-append (NodeOf q) ds es) ∙ off)).0;
+  slot = λ q k off. h.slot q k (neither (overlaps_some (Slot q k) ds) _ (sym (covered-append (Slot q k) ds es) ∙ off)).0;
 }
 
 framed_right : (t u : Nodes) (ds es : List Cell) → Framed t u es → Framed t u (ds ++ es)
 framed_right t u ds es h = record {
-  node = λ q off. h.node q (none_of_both (overlaps_some (NodeOf q) ds) _ (sym (covered-append (NodeOf q) ds es) ∙ off)).1;
-  slot = λ q k off. h.slot q k (none_of_both (overlaps_some (Slot q k) ds) _ (sym (covered-append (Slot q k) ds es) ∙ off)).1;
+  node = λ q off. h.node q (neither (overlaps_some (NodeOf q) ds) _ (sym (covered-append (NodeOf q) ds es) ∙ off)).1;
+  slot = λ q k off. h.slot q k (neither (overlaps_some (Slot q k) ds) _ (sym (covered-append (Slot q k) ds es) ∙ off)).1;
 }
 
 pub framed_fold : (t : Nodes) → IsFormed t → (bs : List Body) → Framed t (fold t bs) (writes_all t bs)
@@ -55,14 +56,21 @@ agrees_kept t u t2 u2 k (NodeOf x ∷ ds) h = (k.node x h.0, agrees_kept t u t2 
 agrees_kept t u t2 u2 k (Slot x j ∷ ds) h = (k.slot x j h.0, agrees_kept t u t2 u2 k ds h.1)
 agrees_kept t u t2 u2 k (All x ∷ ds) h = (λ j. k.slot x j (h.0 j), agrees_kept t u t2 u2 k ds h.1)
 
-pub kept_fold : (t u : Nodes) → IsFormed t → IsFormed u → (bs : List Body) → Agrees t u (cells_all t bs) → Kept t u (fold t bs) (fold u bs) × CoverSame (writes_all t bs) (writes_all u bs)
-kept_fold t u f g [] h = (record { node = λ q e. e; slot = λ q k e. e }, cover_refl [])
+-- the cells of the first operation, and of the others behind it
+module _ (t u : Nodes) (f : IsFormed t) (g : IsFormed u) (b : Body) (bs : List Body) (h : Agrees t u (cells_all t (b ∷ bs))) where
+  pub agrees_first : Agrees t u (reads t b ++ writes t b)
+  agrees_first = (Agrees-append t u (reads t b ++ writes t b) (cells_all (step t b) bs) h).0
+
+  pub agrees_rest : Agrees (step t b) (step u b) (cells_all (step t b) bs)
+  agrees_rest = agrees_kept t u (step t b) (step u b) (local t u f g b agrees_first).kept (cells_all (step t b) bs) (Agrees-append t u (reads t b ++ writes t b) (cells_all (step t b) bs) h).1
+
+pub kept_fold : (t u : Nodes) → IsFormed t → IsFormed u → (bs : List Body) → Agrees t u (cells_all t bs) → Kept t u (fold t bs) (fold u bs) × (writes_all t bs ≡ writes_all u bs)
+kept_fold t u f g [] h = (record { node = λ q e. e; slot = λ q k e. e; matched = λ e. e }, refl)
 kept_fold t u f g (b ∷ bs) h =
-    let a = Agrees-append t u (reads t b ++ writes t b) (cells_all (step t b) bs) h in
-    let l = local t u f g b a.0 in
-    let r = kept_fold (step t b) (step u b) (formed-step t f b) (formed-step u g b) bs (agrees_kept t u (step t b) (step u b) l.kept (cells_all (step t b) bs) a.1) in (
+    let l = local t u f g b (agrees_first t u f g b bs h) in
+    let r = kept_fold (step t b) (step u b) (formed-step t f b) (formed-step u g b) bs (agrees_rest t u f g b bs h) in (
       kept_then t u (step t b) (step u b) (fold (step t b) bs) (fold (step u b) bs) l.kept r.0,
-      cover-append (writes t b) (writes u b) (writes_all (step t b) bs) (writes_all (step u b) bs) l.cells r.1,
+      ap (λ ds. ds ++ writes_all (step t b) bs) l.cells ∙ ap (λ ds. writes u b ++ ds) r.1,
     )
 
 pub alike_fold : (t u : Nodes) → IsFormed t → IsFormed u → (bs : List Body) → Agrees t u (cells_all t bs) → Agrees (fold t bs) (fold u bs) (cells_all t bs)
@@ -77,13 +85,9 @@ name_sym : (j k : List ℕ) → eq_by_cmp (slice_cmp nat_cmp) j k ≡ true → e
 name_sym j k e = ap (eq_by_cmp (slice_cmp nat_cmp) k) (same_name j k e) ∙ key_self k
 
 both_sym : (x y : NodeId) (j k : List ℕ) → (is_same x y && eq_by_cmp (slice_cmp nat_cmp) j k) ≡ false → (is_same y x && eq_by_cmp (slice_cmp nat_cmp) k j) ≡ false
-both_sym x y j k e = off_by _ refl
-  where
-    off_by : (b : Bool) → (is_same y x && eq_by_cmp (slice_cmp nat_cmp) k j) ≡ b → (is_same y x && eq_by_cmp (slice_cmp nat_cmp) k j) ≡ false
-    off_by false h = h
-    off_by true h =
-        let p = and_parts (is_same y x) _ h in
-        absurd (true_false (sym (and_both (is_same x y) _ (ap (is_same x) (same y x p.0) ∙ same_self x) (name_sym k j p.1)) ∙ e))
+both_sym x y j k e = by_no (is_same y x && eq_by_cmp (slice_cmp nat_cmp) k j) (λ h.
+    let p = both (is_same y x) _ h in
+    true_false (sym (and_both (is_same x y) _ (ap (is_same x) (same y x p.0) ∙ same_self x) (name_sym k j p.1)) ∙ e))
 
 -- a cell w against a cell of the other list, turned round
 
@@ -106,15 +110,15 @@ all_off (All x) q k e = same_sym x q e
 first_off : (ws : List Cell) (d : Cell) (ds : List Cell) → meets ws (d ∷ ds) ≡ false → (c : Cell) → ((w : Cell) → overlaps w d ≡ false → overlaps c w ≡ false) → overlaps_some c ws ≡ false
 first_off [] d ds e c h = refl
 first_off (w ∷ ws) d ds e c h =
-    let a = none_of_both (overlaps_some w (d ∷ ds)) _ e in
-    let b = none_of_both (overlaps w d) _ a.0 in
+    let a = neither (overlaps_some w (d ∷ ds)) _ e in
+    let b = neither (overlaps w d) _ a.0 in
     rw (h w b.0, first_off ws d ds a.1 c h) refl
 
 rest_off : (ws : List Cell) (d : Cell) (ds : List Cell) → meets ws (d ∷ ds) ≡ false → meets ws ds ≡ false
 rest_off [] d ds e = refl
 rest_off (w ∷ ws) d ds e =
-    let a = none_of_both (overlaps_some w (d ∷ ds)) _ e in
-    let b = none_of_both (overlaps w d) _ a.0 in
+    let a = neither (overlaps_some w (d ∷ ds)) _ e in
+    let b = neither (overlaps w d) _ a.0 in
     rw (b.1, rest_off ws d ds a.1) refl
 
 -- what is framed by cells that ds doesn't meet agrees on ds
@@ -147,12 +151,12 @@ slot_meets : (q : NodeId) (k : List ℕ) (w d : Cell) → overlaps (Slot q k) w 
 slot_meets q k (NodeOf x) d a b = cc
 slot_meets q k (Slot x j) (NodeOf y) a b = cc
 slot_meets q k (Slot x j) (Slot y i) a b =
-    let p = and_parts (is_same q x) _ a in
-    let r = and_parts (is_same q y) _ b in
+    let p = both (is_same q x) _ a in
+    let r = both (is_same q y) _ b in
     and_both (is_same x y) _ (ap (λ z. is_same z y) (sym (same q x p.0)) ∙ r.0) (ap (λ z. eq_by_cmp (slice_cmp nat_cmp) z i) (sym (same_name k j p.1)) ∙ r.1)
-slot_meets q k (Slot x j) (All y) a b = ap (λ z. is_same z y) (sym (same q x (and_parts (is_same q x) _ a).0)) ∙ b
+slot_meets q k (Slot x j) (All y) a b = ap (λ z. is_same z y) (sym (same q x (both (is_same q x) _ a).0)) ∙ b
 slot_meets q k (All x) (NodeOf y) a b = cc
-slot_meets q k (All x) (Slot y i) a b = ap (λ z. is_same z y) (sym (same q x a)) ∙ (and_parts (is_same q y) _ b).0
+slot_meets q k (All x) (Slot y i) a b = ap (λ z. is_same z y) (sym (same q x a)) ∙ (both (is_same q y) _ b).0
 slot_meets q k (All x) (All y) a b = ap (λ z. is_same z y) (sym (same q x a)) ∙ b
 
 module _ (c : Cell) (meet : (w d : Cell) → overlaps c w ≡ true → overlaps c d ≡ true → overlaps w d ≡ true) where
@@ -165,11 +169,7 @@ module _ (c : Cell) (meet : (w d : Cell) → overlaps c w ≡ true → overlaps 
   all_meet (w ∷ ws) ds a b = elim (or_parts (overlaps c w) _ a) [ inl e ↦ or_left _ _ (some_meets w ds e b) | inr e ↦ or_right (overlaps_some w ds) _ (all_meet ws ds e b) ]
 
   apart_off : (t : Nodes) (ws : List Cell) (bs : List Body) → meets ws (cells_all t bs) ≡ false → overlaps_some c ws ≡ true → overlaps_some c (writes_all t bs) ≡ false
-  apart_off t ws bs e a = off_by _ refl
-    where
-      off_by : (b : Bool) → overlaps_some c (writes_all t bs) ≡ b → overlaps_some c (writes_all t bs) ≡ false
-      off_by false h = h
-      off_by true h = absurd (true_false (sym (all_meet ws (cells_all t bs) a (written_there c t bs h)) ∙ e))
+  apart_off t ws bs e a = by_no (overlaps_some c (writes_all t bs)) (λ h. true_false (sym (all_meet ws (cells_all t bs) a (written_there c t bs h)) ∙ e))
 
 -- trees that agree everywhere are one
 
@@ -192,13 +192,13 @@ kinds_one (Register w) Listed e o p h = cc
 kinds_one (Register w) Mapped e o p h = cc
 kinds_one (Register w) (Register v) e o p h = e
 
-module _ (t u : Nodes) (o : IsOrderedTree t) (p : IsOrderedTree u) (q : NodeId) (slots : (k : List ℕ) → SameSlot t u q k) where
+module _ (t u : Nodes) (matched : AreMatched t u) (q : NodeId) (slots : (k : List ℕ) → SameSlot t u q k) where
   found_same : (m n : Node) → get t q ≡ Some m → get u q ≡ Some n → (k : List ℕ) → find (slice_cmp nat_cmp) k (kind_fields m.kind) ≡ find (slice_cmp nat_cmp) k (kind_fields n.kind)
   found_same m n a b k = sym (ap (λ z. find (slice_cmp nat_cmp) k (fields_in z)) a) ∙ (slots k).0 ∙ ap (λ z. find (slice_cmp nat_cmp) k (fields_in z)) b
 
   nodes_one : (m n : Node) → get t q ≡ Some m → get u q ≡ Some n → bare m ≡ bare n → m ≡ n
   nodes_one m n a b e =
-      let kind = kinds_one m.kind n.kind (ap (λ (v : Node). v.kind) e) (o q m a) (p q n b) (found_same m n a b) in
+      let kind : m.kind ≡ n.kind = elim (matched q m n a b) [ inl o ↦ kinds_one m.kind n.kind (ap (λ (v : Node). v.kind) e) o.0 o.1 (found_same m n a b) | inr is ↦ is ] in
       λ i. record { parent = parent_alike m n e i; key = key_alike m n e i; depth = (e i).depth; kind = kind i }
 
   at_one : (a b : Option Node) → get t q ≡ a → get u q ≡ b → Alike a b → a ≡ b
@@ -211,12 +211,11 @@ module _ (t u : Nodes) (o : IsOrderedTree t) (p : IsOrderedTree u) (q : NodeId) 
   pub one_node : Alike (get t q) (get u q) → get t q ≡ get u q
   one_node e = at_one (get t q) (get u q) refl refl e
 
-one_tree : (t u : Nodes) → IsOrderedTree t → IsOrderedTree u → ((q : NodeId) → Alike (get t q) (get u q)) → ((q : NodeId) (k : List ℕ) → SameSlot t u q k) → t ≡ u
-one_tree t u o p nodes slots = same_map node_cmp-total node_cmp-exact t u (λ q. one_node t u o p q (slots q) (nodes q))
+pub ordered_matched : (t u : Nodes) → IsOrderedTree t → IsOrderedTree u → AreMatched t u
+ordered_matched t u o p q m n a b = inl (o q m a, p q n b)
 
-pub ordered_fold : (t : Nodes) (bs : List Body) → IsOrderedTree t → AreOrderedBodies bs → IsOrderedTree (fold t bs)
-ordered_fold t [] o h = o
-ordered_fold t (b ∷ bs) o h = ordered_fold (step t b) bs (ordered_step t b o h.0) h.1
+one_tree : (t u : Nodes) → AreMatched t u → ((q : NodeId) → Alike (get t q) (get u q)) → ((q : NodeId) (k : List ℕ) → SameSlot t u q k) → t ≡ u
+one_tree t u matched nodes slots = same_map node_cmp-total node_cmp-exact t u (λ q. one_node t u matched q (slots q) (nodes q))
 
 module _ (t : Nodes) (bs cs : List Body) (f : IsFormed t) (o : IsOrderedTree t) (hb : AreOrderedBodies bs) (hc : AreOrderedBodies cs) (apart : IsApart t bs cs) where
   abbrev tb : Nodes
@@ -231,18 +230,18 @@ module _ (t : Nodes) (bs cs : List Body) (f : IsFormed t) (o : IsOrderedTree t) 
   off_b : meets (writes_all t cs) (cells_all t bs) ≡ false
   off_b = not_true _ (both (not (meets (writes_all t bs) (cells_all t cs))) _ apart).1
 
-  after_b : Kept t tb tc (fold tb cs) × CoverSame (writes_all t cs) (writes_all tb cs)
+  after_b : Kept t tb tc (fold tb cs) × (writes_all t cs ≡ writes_all tb cs)
   after_b = kept_fold t tb f (formed-fold t f bs) cs (agrees_off t tb (writes_all t bs) (framed_fold t f bs) (cells_all t cs) off_c)
 
-  after_c : Kept t tc tb (fold tc bs) × CoverSame (writes_all t bs) (writes_all tc bs)
+  after_c : Kept t tc tb (fold tc bs) × (writes_all t bs ≡ writes_all tc bs)
   after_c = kept_fold t tc f (formed-fold t f cs) bs (agrees_off t tc (writes_all t cs) (framed_fold t f cs) (cells_all t bs) off_b)
 
   node_either : (q : NodeId) (b : Bool) → overlaps_some (NodeOf q) (writes_all t bs) ≡ b → Alike (get (fold tb cs) q) (get (fold tc bs) q)
   node_either q false e =
-      sym (after_b.0.node q ((framed_fold t f bs).node q e)) ∙ (framed_fold tc (formed-fold t f cs) bs).node q (sym (after_c.1.node q) ∙ e)
+      sym (after_b.0.node q ((framed_fold t f bs).node q e)) ∙ (framed_fold tc (formed-fold t f cs) bs).node q (ap (overlaps_some (NodeOf q)) (sym after_c.1) ∙ e)
   node_either q true e =
       let off = apart_off (NodeOf q) (node_meets q) t (writes_all t bs) cs off_c e in
-      sym ((framed_fold tb (formed-fold t f bs) cs).node q (sym (after_b.1.node q) ∙ off)) ∙ after_c.0.node q ((framed_fold t f cs).node q off)
+      sym ((framed_fold tb (formed-fold t f bs) cs).node q (ap (overlaps_some (NodeOf q)) (sym after_b.1) ∙ off)) ∙ after_c.0.node q ((framed_fold t f cs).node q off)
 
   slot_sym : (t u : Nodes) (q : NodeId) (k : List ℕ) → SameSlot t u q k → SameSlot u t q k
   slot_sym t u q k s = (sym s.0, sym s.1)
@@ -253,22 +252,22 @@ module _ (t : Nodes) (bs cs : List Body) (f : IsFormed t) (o : IsOrderedTree t) 
   slot_either : (q : NodeId) (k : List ℕ) (b : Bool) → overlaps_some (Slot q k) (writes_all t bs) ≡ b → SameSlot (fold tb cs) (fold tc bs) q k
   slot_either q k false e = slot_trans (fold tb cs) tc (fold tc bs) q k
       (slot_sym tc (fold tb cs) q k (after_b.0.slot q k ((framed_fold t f bs).slot q k e)))
-      ((framed_fold tc (formed-fold t f cs) bs).slot q k (sym (after_c.1.slot q k) ∙ e))
+      ((framed_fold tc (formed-fold t f cs) bs).slot q k (ap (overlaps_some (Slot q k)) (sym after_c.1) ∙ e))
   slot_either q k true e =
       let off = apart_off (Slot q k) (slot_meets q k) t (writes_all t bs) cs off_c e in
       slot_trans (fold tb cs) tb (fold tc bs) q k
-      (slot_sym tb (fold tb cs) q k ((framed_fold tb (formed-fold t f bs) cs).slot q k (sym (after_b.1.slot q k) ∙ off)))
+      (slot_sym tb (fold tb cs) q k ((framed_fold tb (formed-fold t f bs) cs).slot q k (ap (overlaps_some (Slot q k)) (sym after_b.1) ∙ off)))
       (after_c.0.slot q k ((framed_fold t f cs).slot q k off))
 
   pub either_order : fold (fold t bs) cs ≡ fold (fold t cs) bs
-  either_order = one_tree (fold tb cs) (fold tc bs) (ordered_fold tb cs (ordered_fold t bs o hb) hc) (ordered_fold tc bs (ordered_fold t cs o hc) hb)
+  either_order = one_tree (fold tb cs) (fold tc bs) (ordered_matched (fold tb cs) (fold tc bs) (ordered_fold tb cs (ordered_fold t bs o hb) hc) (ordered_fold tc bs (ordered_fold t cs o hc) hb))
       (λ q. node_either q _ refl) (λ q k. slot_either q k _ refl)
 
 -- the three laws
 
 all_covers : (x : NodeId) (k : List ℕ) (ds : List Cell) → overlaps_some (All x) ds ≡ false → overlaps_some (Slot x k) ds ≡ false
 all_covers x k [] e = refl
-all_covers x k (d ∷ ds) e = let a = none_of_both (overlaps (All x) d) _ e in rw (one_covers x k d a.0, all_covers x k ds a.1) refl
+all_covers x k (d ∷ ds) e = let a = neither (overlaps (All x) d) _ e in rw (one_covers x k d a.0, all_covers x k ds a.1) refl
   where
     one_covers : (x : NodeId) (k : List ℕ) (d : Cell) → overlaps (All x) d ≡ false → overlaps (Slot x k) d ≡ false
     one_covers x k (NodeOf y) e = refl

@@ -1,8 +1,6 @@
 -- Which cells a list of cells covers.
 use Rattle.std.proofs.Common.{◌≡◌, ◌⊎◌, inl, inr, ℕ, Bool, true, false, cond, ◌&&◌, ◌||◌, List, [], ◌∷◌, ◌++◌, Option, Some, None, is_some, refl, sym, ap, ◌∙◌, subst}
-use Rattle.std.specs.Cmp.Lexicographic.{slice_cmp}
 use Rattle.std.specs.FinMap.{get, entries}
-use Rattle.std.specs.Ordering.{nat_cmp, eq_by_cmp}
 use Rattle.room_ids.specs.Order.{is_same}
 use Rattle.room_ids.specs.declared.ids.NodeId.{NodeId}
 use Rattle.room_nodes.specs.Cells.{Agrees, AgreesOn, SameSlot, overlaps, overlaps_some, removal_among, removal_cells}
@@ -10,13 +8,12 @@ use Rattle.room_nodes.specs.Shape.{Nodes, is_below}
 use Rattle.room_nodes.specs.declared.cells.Cell.{Cell}
 use Rattle.room_nodes.specs.declared.cells.Cell.TheVariants.{Node as NodeOf, Slot, All}
 use Rattle.room_nodes.specs.declared.nodes.Node.{Node}
-use Rattle.room_nodes.proofs.Children.{entry_of, answer_of, text_exact}
+use Rattle.room_nodes.proofs.Children.{entry_of}
 use Rattle.room_nodes.proofs.Gets.{same, same_self, true_false}
-use Rattle.room_nodes.proofs.Listing.{Has, is_equal}
-use Rattle.room_steps.proofs.Booleans.{or_parts, or_left, or_right, and_parts, both_ways}
-
-pub same_name : (j k : List ℕ) → eq_by_cmp (slice_cmp nat_cmp) j k ≡ true → j ≡ k
-same_name j k e = text_exact j k (is_equal _ e)
+use Rattle.room_nodes.proofs.Listing.{Has}
+use Rattle.room_nodes.proofs.Fitting.{both}
+use Rattle.room_steps.proofs.Booleans.{or_parts, or_left, or_right}
+use Rattle.room_steps.proofs.Fields.{same_name}
 
 -- a cell against two lists, one behind the other
 
@@ -43,7 +40,7 @@ module _ (t u : Nodes) where
   slot_by : (q : NodeId) (k : List ℕ) (d : Cell) → AgreesOn t u d → overlaps (Slot q k) d ≡ true → AgreesOn t u (Slot q k)
   slot_by q k (NodeOf x) h e = cc
   slot_by q k (Slot x j) h e =
-      let p = and_parts (is_same q x) _ e in
+      let p = both (is_same q x) _ e in
       subst (λ z. SameSlot t u z k) (sym (same q x p.0)) (subst (λ i. SameSlot t u x i) (sym (same_name k j p.1)) h)
   slot_by q k (All x) h e = subst (λ z. SameSlot t u z k) (sym (same q x e)) (h k)
 
@@ -98,41 +95,3 @@ module _ (t : Nodes) (y : NodeId) where
 
   pub covers_slot : (q : NodeId) (k : List ℕ) → is_hit t y q ≡ true → overlaps_some (Slot q k) (removal_cells t y) ≡ true
   covers_slot q k h = let b = hit_is q h in covers_among (Slot q k) q b.0 (inr (same_self q)) b.2 (entries t) (entry_of t q b.0 b.1)
-
-  -- and nothing else
-
-  abbrev Tells : Cell → NodeId → Type 0
-  Tells c q = ((x : NodeId) → overlaps c (NodeOf x) ≡ true → x ≡ q) × ((x : NodeId) → overlaps c (All x) ≡ true → x ≡ q)
-
-  node_tells : (q : NodeId) → Tells (NodeOf q) q
-  node_tells q = (λ x e. sym (same q x e), λ x e. cc)
-
-  slot_tells : (q : NodeId) (k : List ℕ) → Tells (Slot q k) q
-  slot_tells q k = (λ x e. cc, λ x e. sym (same q x e))
-
-  hit_entry : (c : Cell) (q : NodeId) → Tells c q → (e : NodeId × Node) → get t e.0 ≡ Some e.1 → (b : Bool) → is_below t y e.0 ≡ b → (ds : List Cell)
-      → (overlaps_some c ds ≡ true → is_hit t y q ≡ true) → overlaps_some c (cond b (NodeOf e.0 ∷ All e.0 ∷ ds) ds) ≡ true → is_hit t y q ≡ true
-  hit_entry c q h e there false g ds more m = more m
-  hit_entry c q h e there true g ds more m = elim (or_parts (overlaps c (NodeOf e.0)) _ m) [
-    | inl a ↦ let is = h.0 e.0 a in hit_of q e.1 (ap (get t) (sym is) ∙ there) (ap (is_below t y) (sym is) ∙ g)
-    | inr m ↦ elim (or_parts (overlaps c (All e.0)) _ m) [
-      | inl a ↦ let is = h.1 e.0 a in hit_of q e.1 (ap (get t) (sym is) ∙ there) (ap (is_below t y) (sym is) ∙ g)
-      | inr m ↦ more m
-    ]
-  ]
-
-  hit_among : (c : Cell) (q : NodeId) → Tells c q → (es : List (NodeId × Node)) → ((e : NodeId × Node) → Has e es → get t e.0 ≡ Some e.1) → overlaps_some c (removal_among t y es) ≡ true → is_hit t y q ≡ true
-  hit_among c q h [] all m = cc
-  hit_among c q h (e ∷ es) all m = hit_entry c q h e (all e (inl refl)) _ refl (removal_among t y es) (hit_among c q h es (λ d g. all d (inr g))) m
-
-  pub node_hit : (q : NodeId) → overlaps_some (NodeOf q) (removal_cells t y) ≡ true → is_hit t y q ≡ true
-  node_hit q m = hit_among (NodeOf q) q (node_tells q) (entries t) (λ e h. answer_of t e h) m
-
-  pub slot_hit : (q : NodeId) (k : List ℕ) → overlaps_some (Slot q k) (removal_cells t y) ≡ true → is_hit t y q ≡ true
-  slot_hit q k m = hit_among (Slot q k) q (slot_tells q k) (entries t) (λ e h. answer_of t e h) m
-
-  pub node_covered : (q : NodeId) → overlaps_some (NodeOf q) (removal_cells t y) ≡ is_hit t y q
-  node_covered q = both_ways _ _ (node_hit q) (covers_node q)
-
-  pub slot_covered : (q : NodeId) (k : List ℕ) → overlaps_some (Slot q k) (removal_cells t y) ≡ is_hit t y q
-  slot_covered q k = both_ways _ _ (slot_hit q k) (covers_slot q k)

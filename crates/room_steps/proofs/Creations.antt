@@ -1,5 +1,5 @@
 -- The create of a node: what stays outside its written cells, and what it keeps of what two trees agree on.
-use Rattle.std.proofs.Common.{◌≡◌, ◌≢◌, ◌+◌, ℕ, Bool, true, false, cond, not, ◌&&◌, ◌||◌, nat_le, List, [], ◌∷◌, length, Option, Some, None, option_map, is_some, refl, sym, ap, ◌∙◌, subst}
+use Rattle.std.proofs.Common.{◌≡◌, ◌≢◌, inr, ◌+◌, ℕ, Bool, true, false, cond, not, ◌&&◌, ◌||◌, nat_le, List, [], ◌∷◌, length, Option, Some, None, option_map, is_some, refl, sym, ap, ◌∙◌, subst}
 use Rattle.std.specs.Cmp.Lexicographic.{slice_cmp}
 use Rattle.std.specs.FinMap.{get, insert, find}
 use Rattle.std.specs.Ordering.{nat_cmp}
@@ -24,10 +24,10 @@ use Rattle.room_nodes.proofs.StepForm.{formed-cleared, free-create, effect-creat
 use Rattle.room_nodes.proofs.Steps.{neither, not_false, room_there, second, list_or_not, pruned, free-create_in_list, effect-create_in_list}
 use Rattle.room_steps.proofs.Booleans.{by_no, or_left, or_right}
 use Rattle.room_steps.proofs.Alike.{Alike, depth_same, holds_list_same, holds_object_same}
-use Rattle.room_steps.proofs.Changing.{Acts, node_kept, slot_kept}
+use Rattle.room_steps.proofs.Changing.{Acts, Kept, kept_changed}
 use Rattle.room_steps.proofs.Cutting.{siblings_apart}
-use Rattle.room_steps.proofs.Touching.{Framed, Kept, CoverSame, IsOut, framed_then, kept_then, cover_more, cover_slot, cover_out_at, covered_out, gone_at_out, own_slot}
-use Rattle.room_steps.proofs.Framing.{Covered, node_framed, slot_framed, node_beside, slot_beside, node_put, slot_put, gone_of, plain, acts_without}
+use Rattle.room_steps.proofs.Touching.{Framed, IsOut, framed_then, kept_then, covered_out, gone_at_out, own_slot, removals_same, slot_cells_same}
+use Rattle.room_steps.proofs.Framing.{Covered, node_framed, slot_framed, node_beside, slot_beside, kept_put, gone_of, plain, acts_without}
 use Rattle.room_steps.proofs.Kin.{IsChild, carried, same_child, same_children}
 use Rattle.room_steps.proofs.Operations.{IsFramed, IsLocal, framed_live, local_live, emptied, emptied_framed, emptied_kept, by_name_plain}
 
@@ -155,13 +155,9 @@ put_framed c x m rest h fresh place =
 
 framed_wider : (t u : Nodes) (x : NodeId) (ds : List Cell) → Framed t u ds → Framed t u (NodeOf x ∷ All x ∷ ds)
 framed_wider t u x ds h = record {
-  node = λ q off. h.node q (second_off (is_same q x) _ off);
-  slot = λ q k off. h.slot q k (second_off (is_same q x) _ off);
+  node = λ q off. h.node q (neither (is_same q x) _ off).1;
+  slot = λ q k off. h.slot q k (neither (is_same q x) _ off).1;
 }
-  where
-    second_off : (a b : Bool) → (a || b) ≡ false → b ≡ false
-    second_off true b e = cc
-    second_off false b e = e
 
 module _ (t : Nodes) (f : IsFormed t) (x p : NodeId) (k : List ℕ) (r : Option NodeId) (kind : Kind) (e : is_void t (Create x p k r kind) ≡ false) where
   fresh : is_some (get t x) ≡ false
@@ -246,17 +242,14 @@ module _ (t : Nodes) (f : IsFormed t) (x p : NodeId) (k : List ℕ) (r : Option 
 
 module _ (t u : Nodes) (f : IsFormed t) (g : IsFormed u) (x p : NodeId) (k : List ℕ) (r : Option NodeId) (kind : Kind) (above : Alike (get t p) (get u p)) where
   kept_made : (e : is_void t (Create x p k r kind) ≡ false) (d : is_void u (Create x p k r kind) ≡ false) (a : Made t f x p k r kind e) (b : Made u g x p k r kind d) → Kept t u a.base b.base → a.key ≡ b.key
-      → CoverSame (effect_cells t (Create x p k r kind)) (effect_cells u (Create x p k r kind)) → IsLocal t u (Create x p k r kind)
+      → effect_cells t (Create x p k r kind) ≡ effect_cells u (Create x p k r kind) → IsLocal t u (Create x p k r kind)
   kept_made e d a b kept key cells =
       let m : Node = record { parent = p; key = a.key; depth = depth_in (get t p) + 1; kind = kind } in
       let n : Node = record { parent = p; key = b.key; depth = depth_in (get u p) + 1; kind = kind } in
       let one : m ≡ n = λ i. record { parent = p; key = key i; depth = depth_same (get t p) (get u p) above i + 1; kind = kind } in
       local_live t u (Create x p k r kind) e d
       (subst (λ (v : Nodes). Kept t u v (effect u (settled_body u (Create x p k r kind)))) (sym a.effect_is) (subst (Kept t u (insert a.base x m)) (sym b.effect_is)
-      (kept_then t u a.base b.base (insert a.base x m) (insert b.base x n) kept (record {
-        node = node_put a.base b.base a.formed b.formed x m n (ap bare one) a.whole b.whole (λ j s. refl);
-        slot = slot_put a.base b.base a.formed b.formed x m n (ap bare one) a.whole b.whole (λ j s. refl);
-      }))))
+      (kept_then t u a.base b.base (insert a.base x m) (insert b.base x n) kept (kept_put a.base b.base a.formed b.formed x m n (ap bare one) a.whole b.whole (λ j s. refl) (λ h. inr refl)))))
       cells
 
   module _ (e : is_void t (Create x p k r kind) ≡ false) (d : is_void u (Create x p k r kind) ≡ false) where
@@ -268,14 +261,12 @@ module _ (t u : Nodes) (f : IsFormed t) (g : IsFormed u) (x p : NodeId) (k : Lis
         let b = made_in_list u g x p k r kind d too in
         let out : Agrees t u (removal_of t (out_of t p r)) = subst (Agrees t u) (cells_is t p r) agree in
         let gones = gone_at_out t u f g (out_of t p r) (out_of u p r) one (out_is t p r) out in
-        kept_made e d a b (record {
-          node = node_kept t u a.base b.base _ _ p plain (left_acts t f x p r) (left_acts u g x p r) gones f g a.formed b.formed by_name_plain (holds_object_same _ _ above);
-          slot = slot_kept t u a.base b.base _ _ p plain (left_acts t f x p r) (left_acts u g x p r) gones f g a.formed b.formed by_name_plain (holds_object_same _ _ above);
-        }) (settled_same t u f g p slots r x k one)
-        (subst (λ ds. CoverSame ds (effect_cells u (Create x p k r kind))) (sym (list_cells t holds)) (subst (CoverSame (NodeOf x ∷ All x ∷ All p ∷ replaced_cells t p r)) (sym (list_cells u too))
-        (cover_more (NodeOf x) (NodeOf x) _ _ refl (cover_more (All x) (All x) _ _ refl (cover_more (All p) (All p) _ _ refl
-        (subst (λ ds. CoverSame ds (replaced_cells u p r)) (sym (cells_is t p r)) (subst (CoverSame (removal_of t (out_of t p r))) (sym (cells_is u p r))
-        (cover_out_at t u f g (out_of t p r) (out_of u p r) one (out_is t p r) out))))))))
+        kept_made e d a b
+        (kept_changed t u a.base b.base _ _ p plain (left_acts t f x p r) (left_acts u g x p r) (λ fs h. h) gones f g a.formed b.formed by_name_plain (holds_object_same _ _ above))
+        (settled_same t u f g p slots r x k one)
+        (list_cells t holds
+        ∙ ap (λ ds. NodeOf x ∷ All x ∷ All p ∷ ds) (cells_is t p r ∙ removals_same t u f g (out_of t p r) (out_of u p r) one (out_is t p r) out ∙ sym (cells_is u p r))
+        ∙ sym (list_cells u too))
       where
         list_cells : (v : Nodes) → holds_list (get v p) ≡ true → effect_cells v (Create x p k r kind) ≡ NodeOf x ∷ All x ∷ All p ∷ replaced_cells v p r
         list_cells v h = ap (λ b. NodeOf x ∷ All x ∷ cond b (All p ∷ replaced_cells v p r) (slot_cells v p k)) h
@@ -287,8 +278,7 @@ module _ (t u : Nodes) (f : IsFormed t) (g : IsFormed u) (x p : NodeId) (k : Lis
         let n = room_there (get t p) (not_false _ (neither _ _ (neither _ _ e).1).0) in
         let m = room_there (get u p) (not_false _ (neither _ _ (neither _ _ d).1).0) in
         kept_made e d (made_at_key t f x p k r kind e holds) (made_at_key u g x p k r kind d too) (emptied_kept t u f g p k n.0 m.0 n.1 m.1 above agree) refl
-        (subst (λ ds. CoverSame ds (effect_cells u (Create x p k r kind))) (sym (key_cells t holds)) (subst (CoverSame (NodeOf x ∷ All x ∷ slot_cells t p k)) (sym (key_cells u too))
-        (cover_more (NodeOf x) (NodeOf x) _ _ refl (cover_more (All x) (All x) _ _ refl (cover_slot t u f g p k agree)))))
+        (key_cells t holds ∙ ap (λ ds. NodeOf x ∷ All x ∷ ds) (slot_cells_same t u f g p k agree) ∙ sym (key_cells u too))
       where
         key_cells : (v : Nodes) → holds_list (get v p) ≡ false → effect_cells v (Create x p k r kind) ≡ NodeOf x ∷ All x ∷ slot_cells v p k
         key_cells v h = ap (λ b. NodeOf x ∷ All x ∷ cond b (All p ∷ replaced_cells v p r) (slot_cells v p k)) h

@@ -68,12 +68,15 @@ same_fields es fs g h is = same_entries (slice_cmp nat_cmp) nat_list_cmp_total t
 pub key_self : (k : List ℕ) → eq_by_cmp (slice_cmp nat_cmp) k k ≡ true
 key_self k = ap is_eq (tied_itself nat_list_cmp_total k)
 
+pub same_name : (j k : List ℕ) → eq_by_cmp (slice_cmp nat_cmp) j k ≡ true → j ≡ k
+same_name j k e = text_exact j k (is_equal _ e)
+
 key_apart : (q k : List ℕ) → q ≢ k → eq_by_cmp (slice_cmp nat_cmp) q k ≡ false
-key_apart q k n = by_no (eq_by_cmp (slice_cmp nat_cmp) q k) (λ e. n (text_exact q k (is_equal _ e)))
+key_apart q k n = by_no (eq_by_cmp (slice_cmp nat_cmp) q k) (λ e. n (same_name q k e))
 
 pub one_name : (q k : List ℕ) → (q ≡ k) ⊎ (q ≢ k)
 one_name q k = elim (eq_by_cmp (slice_cmp nat_cmp) q k) as (λ b. eq_by_cmp (slice_cmp nat_cmp) q k ≡ b → (q ≡ k) ⊎ (q ≢ k)) [
-  | true ↦ λ e. inl (text_exact q k (is_equal _ e))
+  | true ↦ λ e. inl (same_name q k e)
   | false ↦ λ e. inr (λ is. true_false (sym (key_self q) ∙ ap (eq_by_cmp (slice_cmp nat_cmp) q) is ∙ e))
 ] refl
 

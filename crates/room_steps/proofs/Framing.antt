@@ -3,12 +3,11 @@ use Rattle.std.proofs.Common.{◌≡◌, ◌≢◌, inl, inr, ℕ, Bool, true, f
 use Rattle.std.specs.Cmp.Lexicographic.{slice_cmp}
 use Rattle.std.specs.FinMap.{get, insert, find}
 use Rattle.std.specs.Ordering.{nat_cmp}
-use Rattle.room_json.specs.Value.{Value}
 use Rattle.room_ids.specs.Order.{is_same}
 use Rattle.room_ids.specs.declared.ids.NodeId.{NodeId}
 use Rattle.room_ids.specs.declared.ids.NodeId.TheVariants.{Root}
 use Rattle.room_nodes.specs.Cells.{SameSlot, bare, field_at, overlaps_some}
-use Rattle.room_nodes.specs.Primitives.{fields_in, kind_fields}
+use Rattle.room_nodes.specs.Primitives.{kind_fields}
 use Rattle.room_nodes.specs.Shape.{Nodes, IsFormed, child_at, is_below}
 use Rattle.room_nodes.specs.Steps.{fields_kind, on_fields, without}
 use Rattle.room_nodes.specs.declared.cells.Cell.{Cell}
@@ -20,12 +19,9 @@ use Rattle.room_nodes.proofs.Gets.{get_here, get_other, get_removed, here_or_old
 use Rattle.room_nodes.proofs.StepForm.{FieldsOf}
 use Rattle.room_steps.proofs.Booleans.{by_no}
 use Rattle.room_steps.proofs.Alike.{Alike, bare_fields, parent_alike, key_alike}
-use Rattle.room_steps.proofs.Changing.{Acts, edited, edited_by, map_same, stays_there, was_there, child_was, child_stays}
+use Rattle.room_steps.proofs.Changing.{Acts, AreMatched, IsMatched, Kept, edited, edited_by, found_in, map_same, stays_there, was_there, child_was, child_stays}
 use Rattle.room_steps.proofs.Covering.{is_hit}
 use Rattle.room_steps.proofs.Kin.{IsChild, carried, same_child}
-
-abbrev found_in : List ℕ → Option Node → Option Value
-found_in k o = find (slice_cmp nat_cmp) k (fields_in o)
 
 -- where no written cell lies, nothing changes
 
@@ -107,8 +103,8 @@ module _ (t : Nodes) (y : NodeId) (n : Node) (h : IsFormed (insert t y n)) (fres
 -- two trees into which alike nodes are put agree where they agreed
 
 module _ (t u : Nodes) (f : IsFormed t) (g : IsFormed u) (y : NodeId) (n k : Node) (e : bare n ≡ bare k) (h : IsFormed (insert t y n)) (h2 : IsFormed (insert u y k))
-    (fields : (j : List ℕ) → SameSlot t u y j → find (slice_cmp nat_cmp) j (kind_fields n.kind) ≡ find (slice_cmp nat_cmp) j (kind_fields k.kind)) where
-  pub node_put : (q : NodeId) → Alike (get t q) (get u q) → Alike (get (insert t y n) q) (get (insert u y k) q)
+    (fields : (j : List ℕ) → SameSlot t u y j → find (slice_cmp nat_cmp) j (kind_fields n.kind) ≡ find (slice_cmp nat_cmp) j (kind_fields k.kind)) (kinds : AreMatched t u → IsMatched n.kind k.kind) where
+  node_put : (q : NodeId) → Alike (get t q) (get u q) → Alike (get (insert t y n) q) (get (insert u y k) q)
   node_put q s = elim (one_or_two q y) [
     | inl i ↦ ap (λ z. option_map bare (get (insert t y n) z)) i ∙ ap (option_map bare) (get_here t y n) ∙ ap Some e ∙ sym (ap (option_map bare) (get_here u y k)) ∙ sym (ap (λ z. option_map bare (get (insert u y k) z)) i)
     | inr d ↦ ap (option_map bare) (get_other t y n q d) ∙ s ∙ sym (ap (option_map bare) (get_other u y k q d))
@@ -136,13 +132,25 @@ module _ (t u : Nodes) (f : IsFormed t) (g : IsFormed u) (y : NodeId) (n k : Nod
         record { node = d.node; there = get_other w y l z old.0 ∙ d.there; made = c.made; parent = d.parent; key = d.key }
   ]
 
-  pub slot_put : (q : NodeId) (j : List ℕ) → SameSlot t u q j → SameSlot (insert t y n) (insert u y k) q j
+  slot_put : (q : NodeId) (j : List ℕ) → SameSlot t u q j → SameSlot (insert t y n) (insert u y k) q j
   slot_put q j s = (
     field_put q j s,
     same_child (insert t y n) (insert u y k) h2 q j
         (child_to t u n k e q j (λ z c. carried t u f q j z s.1 c))
         (child_to u t k n (sym e) q j (λ z c. carried u t g q j z (sym s.1) c)),
   )
+
+  matched_put : AreMatched t u → AreMatched (insert t y n) (insert u y k)
+  matched_put m q a b is so = elim (here_or_old t y n q a is) [
+    | inl i ↦ elim (here_or_old u y k q b so) [
+      | inl j ↦ subst (λ (z : Node). IsMatched z.kind b.kind) (sym i.1) (subst (λ (z : Node). IsMatched n.kind z.kind) (sym j.1) (kinds m))
+      | inr old ↦ absurd (old.0 i.0)
+    ]
+    | inr was ↦ elim (here_or_old u y k q b so) [ inl j ↦ absurd (was.0 j.0) | inr old ↦ m q a b was.1 old.1 ]
+  ]
+
+  pub kept_put : Kept t u (insert t y n) (insert u y k)
+  kept_put = record { node = node_put; slot = slot_put; matched = matched_put }
 
 -- taking nodes out
 

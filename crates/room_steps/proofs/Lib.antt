@@ -8,13 +8,17 @@ pub mod Creations
 pub mod Cutting
 pub mod Fields
 pub mod Framing
+pub mod Keeping
 pub mod Kin
 pub mod Operations
 pub mod OrderedSteps
 pub mod Regions
 pub mod Restoring
 pub mod Reversing
+pub mod SameCells
+pub mod Settled
 pub mod Shallow
+pub mod Sound
 pub mod Touching
 pub mod Undoing
 pub mod Updating

@@ -22,12 +22,12 @@ use Rattle.room_nodes.proofs.Formed.{formed-removed}
 use Rattle.room_nodes.proofs.Gets.{same_self, some_inj, true_false}
 use Rattle.room_nodes.proofs.StepForm.{FieldsOf, at_node, object_there, cut_child, cut_children, formed-cleared, formed-update}
 use Rattle.room_nodes.proofs.Steps.{neither, not_false}
-use Rattle.room_steps.proofs.Booleans.{or_left, or_right, none_of_both}
+use Rattle.room_steps.proofs.Booleans.{or_left, or_right}
 use Rattle.room_steps.proofs.Alike.{Alike, parent_same, key_same, holds_list_same, holds_object_same}
-use Rattle.room_steps.proofs.Changing.{Acts, IsByName, node_kept, slot_kept}
+use Rattle.room_steps.proofs.Changing.{Acts, IsByName, Kept, kept_changed}
 use Rattle.room_steps.proofs.Covering.{covered-append}
-use Rattle.room_steps.proofs.Fields.{Named, beside_without, find_without, with_beside}
-use Rattle.room_steps.proofs.Touching.{Framed, Kept, CoverSame, IsOut, child_out, covered_out, covered_slot, covered_slots, cover_more, cover_out, cover_refl, cover_slot, cover_slots, gone_at_out, gone_same, gones_same, left_at, own_slot}
+use Rattle.room_steps.proofs.Fields.{Named, beside_without, find_without, ordered_with, ordered_without, with_beside}
+use Rattle.room_steps.proofs.Touching.{Framed, IsOut, child_out, covered_out, covered_slot, covered_slots, gone_at_out, gone_same, gones_same, left_at, own_slot, removals_same, slot_cells_same, slots_cells_same}
 use Rattle.room_steps.proofs.Framing.{AreKept, Covered, node_framed, slot_framed, gone_of, gone_at, plain, acts_plain, acts_then, acts_without}
 use Rattle.room_steps.proofs.Restoring.{step_acts, step_void}
 
@@ -35,7 +35,7 @@ use Rattle.room_steps.proofs.Restoring.{step_acts, step_void}
 
 pub record IsLocal (t u : Nodes) (b : Body) : Type 0 where
   pub kept : Kept t u (step t b) (step u b)
-  pub cells : CoverSame (writes t b) (writes u b)
+  pub cells : writes t b ≡ writes u b
 
 abbrev pub IsFramed : Nodes → Body → Type 0
 IsFramed t b = Framed t (step t b) (writes t b)
@@ -51,14 +51,14 @@ framed_live t b e h = subst (λ (v : Nodes). Framed t v (writes t b)) (sym (step
 
 pub local_void : (t u : Nodes) (b : Body) → is_void t b ≡ true → is_void u b ≡ true → IsLocal t u b
 local_void t u b e d = record {
-  kept = subst (λ (v : Nodes). Kept t u v (step u b)) (sym (step_void t b e)) (subst (Kept t u t) (sym (step_void u b d)) (record { node = λ q h. h; slot = λ q k h. h }));
-  cells = subst (λ ds. CoverSame ds (writes u b)) (sym (writes_by t b true e)) (subst (CoverSame []) (sym (writes_by u b true d)) (cover_refl []));
+  kept = subst (λ (v : Nodes). Kept t u v (step u b)) (sym (step_void t b e)) (subst (Kept t u t) (sym (step_void u b d)) (record { node = λ q h. h; slot = λ q k h. h; matched = λ h. h }));
+  cells = writes_by t b true e ∙ sym (writes_by u b true d);
 }
 
-pub local_live : (t u : Nodes) (b : Body) → is_void t b ≡ false → is_void u b ≡ false → Kept t u (effect t (settled_body t b)) (effect u (settled_body u b)) → CoverSame (effect_cells t b) (effect_cells u b) → IsLocal t u b
+pub local_live : (t u : Nodes) (b : Body) → is_void t b ≡ false → is_void u b ≡ false → Kept t u (effect t (settled_body t b)) (effect u (settled_body u b)) → effect_cells t b ≡ effect_cells u b → IsLocal t u b
 local_live t u b e d h c = record {
   kept = subst (λ (v : Nodes). Kept t u v (step u b)) (sym (step_acts t b e)) (subst (Kept t u (effect t (settled_body t b))) (sym (step_acts u b d)) h);
-  cells = subst (λ ds. CoverSame ds (writes u b)) (sym (writes_by t b false e)) (subst (CoverSame (effect_cells t b)) (sym (writes_by u b false d)) c);
+  cells = writes_by t b false e ∙ c ∙ sym (writes_by u b false d);
 }
 
 -- changes of fields, name by name
@@ -78,14 +78,14 @@ off_other : (x : NodeId) (j k : List ℕ) → overlaps (Slot x j) (Slot x k) ≡
 off_other x j k h e = true_false (sym (own_slot x j) ∙ ap (λ i. overlaps (Slot x j) (Slot x i)) (sym e) ∙ h)
 
 kept_without : (x : NodeId) (k : List ℕ) (ds : List Cell) → AreKept (without_field k) x (Slot x k ∷ ds)
-kept_without x k ds j off es = beside_without j k es (off_other x j k (none_of_both (overlaps (Slot x j) (Slot x k)) _ off).0)
+kept_without x k ds j off es = beside_without j k es (off_other x j k (neither (overlaps (Slot x j) (Slot x k)) _ off).0)
 
 off_named : (t : Nodes) (x : NodeId) (j : List ℕ) (fs : FieldsOf) → overlaps_some (Slot x j) (slots_cells t x fs) ≡ false → Named j fs → ⊥
 off_named t x j [] off m = m
 off_named t x j (e ∷ fs) off m =
-    let a = none_of_both (overlaps_some (Slot x j) (slot_cells t x e.0)) _ (sym (covered-append (Slot x j) (slot_cells t x e.0) (slots_cells t x fs)) ∙ off) in
+    let a = neither (overlaps_some (Slot x j) (slot_cells t x e.0)) _ (sym (covered-append (Slot x j) (slot_cells t x e.0) (slots_cells t x fs)) ∙ off) in
     elim m [
-      | inl is ↦ off_other x j e.0 (none_of_both (overlaps (Slot x j) (Slot x e.0)) _ a.0).0 is
+      | inl is ↦ off_other x j e.0 (neither (overlaps (Slot x j) (Slot x e.0)) _ a.0).0 is
       | inr m ↦ off_named t x j fs a.1 m
     ]
 
@@ -121,12 +121,8 @@ module _ (t u : Nodes) (f : IsFormed t) (g : IsFormed u) (x : NodeId) (k : List 
 
   pub emptied_kept : Kept t u (emptied t x k) (emptied u x k)
   emptied_kept =
-      let a = emptied_acts t f x k n there in
-      let b = emptied_acts u g x k m too in
-      record {
-        node = node_kept t u (emptied t x k) (emptied u x k) _ _ x (without_field k) a b gones f g (emptied_formed t f x k n there) (emptied_formed u g x k m too) (by_name_without k) (holds_object_same _ _ alike);
-        slot = slot_kept t u (emptied t x k) (emptied u x k) _ _ x (without_field k) a b gones f g (emptied_formed t f x k n there) (emptied_formed u g x k m too) (by_name_without k) (holds_object_same _ _ alike);
-      }
+      kept_changed t u (emptied t x k) (emptied u x k) _ _ x (without_field k) (emptied_acts t f x k n there) (emptied_acts u g x k m too) (ordered_without k) gones f g
+      (emptied_formed t f x k n there) (emptied_formed u g x k m too) (by_name_without k) (holds_object_same _ _ alike)
 
 -- delete key
 
@@ -138,7 +134,7 @@ pub local_delete_key : (t u : Nodes) → IsFormed t → IsFormed u → (x : Node
 local_delete_key t u f g x k e d alike agree =
     let n = object_there (get t x) (not_false _ e) in
     let m = object_there (get u x) (not_false _ d) in
-    local_live t u (DeleteKey x k) e d (emptied_kept t u f g x k n.0 m.0 n.1 m.1 alike agree) (cover_slot t u f g x k agree)
+    local_live t u (DeleteKey x k) e d (emptied_kept t u f g x k n.0 m.0 n.1 m.1 alike agree) (slot_cells_same t u f g x k agree)
 
 -- update
 
@@ -176,10 +172,9 @@ local_update t u f g x fs e d alike agree =
     let h = updated_formed t f x fs n.0 n.1 (not_false _ e) in
     let k = updated_formed u g x fs m.0 m.1 (not_false _ d) in
     let same = gones_same t u f g x fs agree in
-    local_live t u (Update x fs) e d (record {
-      node = node_kept t u _ _ (gone_at t x fs) (gone_at u x fs) x (with_fields fs) a b same f g h k (by_name_with fs) (holds_object_same _ _ alike);
-      slot = slot_kept t u _ _ (gone_at t x fs) (gone_at u x fs) x (with_fields fs) a b same f g h k (by_name_with fs) (holds_object_same _ _ alike);
-    }) (cover_slots t u f g x fs agree)
+    local_live t u (Update x fs) e d
+    (kept_changed t u _ _ (gone_at t x fs) (gone_at u x fs) x (with_fields fs) a b (ordered_with fs) same f g h k (by_name_with fs) (holds_object_same _ _ alike))
+    (slots_cells_same t u f g x fs agree)
 
 -- delete
 
@@ -221,7 +216,10 @@ local_delete t u f g x e d alike above agree =
     let ups : up t x ≡ up u x = parent_same _ _ alike in
     let lists : holds_list (get t (up t x)) ≡ holds_list (get u (up u x)) = holds_list_same _ _ above ∙ ap (λ p. holds_list (get u p)) ups in
     let same = gone_same t u f g (Some x) out agree in
-    local_live t u (Delete x) e d (record {
-      node = node_kept t u (removed t x) (removed u x) (gone_of t (Some x)) (gone_of u (Some x)) x plain (acts_without t x (Some x)) (acts_without u x (Some x)) same f g (formed-removed t x f n.2) (formed-removed u x g m.2) by_name_plain (holds_object_same _ _ alike);
-      slot = slot_kept t u (removed t x) (removed u x) (gone_of t (Some x)) (gone_of u (Some x)) x plain (acts_without t x (Some x)) (acts_without u x (Some x)) same f g (formed-removed t x f n.2) (formed-removed u x g m.2) by_name_plain (holds_object_same _ _ alike);
-    }) (cover_more _ _ (removal_cells t x) (removal_cells u x) (cell_same _ _ _ _ _ _ lists ups (key_same _ _ alike)) (cover_out t u f g (Some x) out agree))
+    local_live t u (Delete x) e d
+    (kept_changed t u (removed t x) (removed u x) (gone_of t (Some x)) (gone_of u (Some x)) x plain (acts_without t x (Some x)) (acts_without u x (Some x)) (λ fs h. h) same f g
+    (formed-removed t x f n.2) (formed-removed u x g m.2) by_name_plain (holds_object_same _ _ alike))
+    (ap (λ c. c ∷ removal_cells t x) (cell_same _ _ _ _ _ _ lists ups (key_same _ _ alike)) ∙ ap (λ ds. place u ∷ ds) (removals_same t u f g (Some x) (Some x) refl out agree))
+  where
+    place : Nodes → Cell
+    place v = cond (holds_list (get v (up v x))) (All (up v x)) (Slot (up v x) (key_in (get v x)))

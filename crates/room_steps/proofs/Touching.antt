@@ -1,5 +1,5 @@
 -- What one operation leaves as it is, and what it keeps of what two trees agree on.
-use Rattle.std.proofs.Common.{◌≡◌, ◌≢◌, inl, inr, ℕ, Bool, true, false, cond, ◌&&◌, ◌||◌, List, [], ◌∷◌, ◌++◌, Option, Some, None, is_some, refl, sym, ap, ◌∙◌, subst}
+use Rattle.std.proofs.Common.{◌≡◌, ◌≢◌, inl, inr, ℕ, Bool, true, false, cond, ◌&&◌, ◌||◌, List, [], ◌∷◌, ◌++◌, Option, Some, None, is_some, refl, sym, ap, ◌∙◌}
 use Rattle.std.specs.Cmp.Lexicographic.{slice_cmp}
 use Rattle.std.specs.FinMap.{get}
 use Rattle.std.specs.Ordering.{nat_cmp, eq_by_cmp}
@@ -16,49 +16,27 @@ use Rattle.room_nodes.proofs.Below.{below_step}
 use Rattle.room_nodes.proofs.Fitting.{the_parent}
 use Rattle.room_nodes.proofs.Gets.{same, same_self, some_inj, some_none, true_false}
 use Rattle.room_nodes.proofs.StepForm.{FieldsOf}
-use Rattle.room_steps.proofs.Booleans.{or_parts, or_left, or_right, none_of_both, and_both}
+use Rattle.room_nodes.proofs.Steps.{neither}
+use Rattle.room_steps.proofs.Booleans.{or_parts, or_left, or_right, and_both}
 use Rattle.room_steps.proofs.Alike.{Alike}
-use Rattle.room_steps.proofs.Covering.{Agrees-append, covered-append, is_hit, hit_is, hit_of, covers_node, covers_slot, node_covered, slot_covered}
+use Rattle.room_steps.proofs.Changing.{Kept}
+use Rattle.room_steps.proofs.Covering.{Agrees-append, covered-append, is_hit, hit_is, hit_of, covers_node, covers_slot}
 use Rattle.room_steps.proofs.Cutting.{cut, IsSpared}
 use Rattle.room_steps.proofs.Fields.{key_self}
 use Rattle.room_steps.proofs.Framing.{Covered, gone_of, gone_at}
 use Rattle.room_steps.proofs.Kin.{child_of}
-use Rattle.room_steps.proofs.Regions.{hit_same}
+use Rattle.room_steps.proofs.Regions.{hit_same, removal_same}
 
 -- outside the cells ds, u is t
 pub record Framed (t u : Nodes) (ds : List Cell) : Type 0 where
   pub node : (q : NodeId) → overlaps_some (NodeOf q) ds ≡ false → Alike (get t q) (get u q)
   pub slot : (q : NodeId) (k : List ℕ) → overlaps_some (Slot q k) ds ≡ false → SameSlot t u q k
 
--- what t and u agree on, the two after them agree on
-pub record Kept (t u t2 u2 : Nodes) : Type 0 where
-  pub node : (q : NodeId) → Alike (get t q) (get u q) → Alike (get t2 q) (get u2 q)
-  pub slot : (q : NodeId) (k : List ℕ) → SameSlot t u q k → SameSlot t2 u2 q k
-
-pub record CoverSame (ds es : List Cell) : Type 0 where
-  pub node : (q : NodeId) → overlaps_some (NodeOf q) ds ≡ overlaps_some (NodeOf q) es
-  pub slot : (q : NodeId) (k : List ℕ) → overlaps_some (Slot q k) ds ≡ overlaps_some (Slot q k) es
-
 pub framed_then : (t u v : Nodes) (ds : List Cell) → Framed t u ds → Framed u v ds → Framed t v ds
 framed_then t u v ds a b = record { node = λ q h. a.node q h ∙ b.node q h; slot = λ q k h. ((a.slot q k h).0 ∙ (b.slot q k h).0, (a.slot q k h).1 ∙ (b.slot q k h).1) }
 
 pub kept_then : (t u t2 u2 t3 u3 : Nodes) → Kept t u t2 u2 → Kept t2 u2 t3 u3 → Kept t u t3 u3
-kept_then t u t2 u2 t3 u3 a b = record { node = λ q h. b.node q (a.node q h); slot = λ q k h. b.slot q k (a.slot q k h) }
-
-pub cover_refl : (ds : List Cell) → CoverSame ds ds
-cover_refl ds = record { node = λ q. refl; slot = λ q k. refl }
-
-pub cover_more : (c d : Cell) (ds es : List Cell) → c ≡ d → CoverSame ds es → CoverSame (c ∷ ds) (d ∷ es)
-cover_more c d ds es e h = record {
-  node = λ q. ap (λ x. overlaps (NodeOf q) x || overlaps_some (NodeOf q) ds) e ∙ ap (λ b. overlaps (NodeOf q) d || b) (h.node q);
-  slot = λ q k. ap (λ x. overlaps (Slot q k) x || overlaps_some (Slot q k) ds) e ∙ ap (λ b. overlaps (Slot q k) d || b) (h.slot q k);
-}
-
-pub cover-append : (ds es cs bs : List Cell) → CoverSame ds es → CoverSame cs bs → CoverSame (ds ++ cs) (es ++ bs)
-cover-append ds es cs bs h k = record {
-  node = λ q. covered-append (NodeOf q) ds cs ∙ ap (λ b. b || overlaps_some (NodeOf q) cs) (h.node q) ∙ ap (λ b. overlaps_some (NodeOf q) es || b) (k.node q) ∙ sym (covered-append (NodeOf q) es bs);
-  slot = λ q j. covered-append (Slot q j) ds cs ∙ ap (λ b. b || overlaps_some (Slot q j) cs) (h.slot q j) ∙ ap (λ b. overlaps_some (Slot q j) es || b) (k.slot q j) ∙ sym (covered-append (Slot q j) es bs);
-}
+kept_then t u t2 u2 t3 u3 a b = record { node = λ q h. b.node q (a.node q h); slot = λ q k h. b.slot q k (a.slot q k h); matched = λ h. b.matched (a.matched h) }
 
 -- nodes that a child takes with it
 
@@ -108,29 +86,21 @@ module _ (t u : Nodes) (f : IsFormed t) (g : IsFormed u) where
   gone_same None out h q = refl
   gone_same (Some y) out h q = let r = out y refl in hit_same t u f g y r.0 r.1 r.2 h q
 
-  pub cover_out : (o : Option NodeId) → IsOut t o → Agrees t u (removal_of t o) → CoverSame (removal_of t o) (removal_of u o)
-  cover_out None out h = cover_refl []
-  cover_out (Some y) out h =
-      let r = out y refl in
-      record {
-        node = λ q. node_covered t y q ∙ hit_same t u f g y r.0 r.1 r.2 h q ∙ sym (node_covered u y q);
-        slot = λ q k. slot_covered t y q k ∙ hit_same t u f g y r.0 r.1 r.2 h q ∙ sym (slot_covered u y q k);
-      }
-
-  pub cover_out_at : (o w : Option NodeId) → o ≡ w → IsOut t o → Agrees t u (removal_of t o) → CoverSame (removal_of t o) (removal_of u w)
-  cover_out_at o w e out h = subst (λ z. CoverSame (removal_of t o) (removal_of u z)) e (cover_out o out h)
+  pub removals_same : (o w : Option NodeId) → o ≡ w → IsOut t o → Agrees t u (removal_of t o) → removal_of t o ≡ removal_of u w
+  removals_same None w e out h = ap (removal_of u) e
+  removals_same (Some y) w e out h = let r = out y refl in removal_same t u f g y r.0 r.1 r.2 h ∙ ap (removal_of u) e
 
   pub gone_at_out : (o w : Option NodeId) → o ≡ w → IsOut t o → Agrees t u (removal_of t o) → (q : NodeId) → gone_of t o q ≡ gone_of u w q
   gone_at_out o w e out h q = gone_same o out h q ∙ ap (λ z. gone_of u z q) e
 
-  pub cover_slot : (x : NodeId) (k : List ℕ) → Agrees t u (slot_cells t x k) → CoverSame (slot_cells t x k) (slot_cells u x k)
-  cover_slot x k h = cover_more (Slot x k) (Slot x k) _ _ refl (cover_out_at (child_at t x k) (child_at u x k) h.0.1 (child_out t x k) h.1)
+  pub slot_cells_same : (x : NodeId) (k : List ℕ) → Agrees t u (slot_cells t x k) → slot_cells t x k ≡ slot_cells u x k
+  slot_cells_same x k h = ap (λ ds. Slot x k ∷ ds) (removals_same (child_at t x k) (child_at u x k) h.0.1 (child_out t x k) h.1)
 
-  pub cover_slots : (x : NodeId) (fs : FieldsOf) → Agrees t u (slots_cells t x fs) → CoverSame (slots_cells t x fs) (slots_cells u x fs)
-  cover_slots x [] h = cover_refl []
-  cover_slots x (e ∷ fs) h =
+  pub slots_cells_same : (x : NodeId) (fs : FieldsOf) → Agrees t u (slots_cells t x fs) → slots_cells t x fs ≡ slots_cells u x fs
+  slots_cells_same x [] h = refl
+  slots_cells_same x (e ∷ fs) h =
       let a = Agrees-append t u (slot_cells t x e.0) (slots_cells t x fs) h in
-      cover-append (slot_cells t x e.0) (slot_cells u x e.0) (slots_cells t x fs) (slots_cells u x fs) (cover_slot x e.0 a.0) (cover_slots x fs a.1)
+      ap (λ ds. ds ++ slots_cells t x fs) (slot_cells_same x e.0 a.0) ∙ ap (λ ds. slot_cells u x e.0 ++ ds) (slots_cells_same x fs a.1)
 
   pub gones_same : (x : NodeId) (fs : FieldsOf) → Agrees t u (slots_cells t x fs) → (q : NodeId) → gone_at t x fs q ≡ gone_at u x fs q
   gones_same x [] h q = refl
@@ -160,7 +130,7 @@ module _ (t : Nodes) (f : IsFormed t) (x : NodeId) where
   off_spared : (fs : FieldsOf) (q : NodeId) (n : Node) → get t q ≡ Some n → gone_at t x fs q ≡ false → IsSpared x t fs q
   off_spared [] q n e h k z m there = absurd m
   off_spared (d ∷ fs) q n e h k z m there =
-      let a = none_of_both (gone_of t (child_at t x d.0) q) _ h in
+      let a = neither (gone_of t (child_at t x d.0) q) _ h in
       elim m [
         | inl is ↦ off_below z q n e (ap (λ o. gone_of t o q) (sym there ∙ ap (child_at t x) (sym is)) ∙ a.0)
         | inr m ↦ off_spared fs q n e a.1 k z m there

@@ -29,17 +29,17 @@ use Rattle.room_nodes.proofs.Childs.{Kid}
 use Rattle.room_nodes.proofs.Walks.{walk_there}
 use Rattle.room_nodes.proofs.Tours.{is_within, tour_under}
 use Rattle.room_steps.specs.Laws.{UndoRestores}
-use Rattle.room_nodes.specs.Ordered.{AreOrderedBodies, IsOrderedTree}
 use Rattle.room_nodes.specs.Reversal.{child_restored, creation, creations, displaced, field_in, field_of_node, gone_or, key_restored, node_restored, old_field, old_fields, old_update, other_name, other_names, replaced_restored, reverse, reverse_all, reversed, slot_or, slot_restored}
 use Rattle.room_steps.proofs.Booleans.{or_right}
 use Rattle.room_steps.proofs.Agreement.{create_both, create_out, local, void_same}
 use Rattle.room_steps.proofs.Alike.{by_alike, holds_list_same, key_alike}
-use Rattle.room_steps.proofs.Commuting.{agrees_kept, agrees_off, either_order, framed_fold, one_node, ordered_fold}
+use Rattle.room_steps.proofs.Changing.{AreMatched}
+use Rattle.room_steps.proofs.Commuting.{agrees_first, agrees_off, agrees_rest, either_order, framed_fold, one_node, ordered_matched}
 use Rattle.room_steps.proofs.Covering.{Agrees-append, is_hit, hit_is, hit_of}
 use Rattle.room_steps.proofs.Creations.{cells_is, out_by, out_is, out_of}
 use Rattle.room_steps.proofs.Kin.{same_children}
 use Rattle.room_steps.proofs.Operations.{writes_by}
-use Rattle.room_steps.proofs.OrderedSteps.{ordered_step}
+use Rattle.room_steps.proofs.OrderedSteps.{ordered_fold}
 use Rattle.room_steps.proofs.Regions.{node_agrees, slot_agrees}
 use Rattle.room_steps.proofs.Restoring.{order, under}
 use Rattle.room_steps.proofs.Reversing.{reversible}
@@ -67,7 +67,7 @@ replaced_is : (t : Nodes) (p : NodeId) (r : Option NodeId) → replaced_restored
 replaced_is t p None = refl
 replaced_is t p (Some y) = replaced_by t y (is_under p y (get t y))
 
-module _ (t u : Nodes) (f : IsFormed t) (g : IsFormed u) (o : IsOrderedTree t) (p : IsOrderedTree u) where
+module _ (t u : Nodes) (f : IsFormed t) (g : IsFormed u) (matched : AreMatched t u) where
   -- a node that is removed
   module _ (y : NodeId) (m : Node) (here : get t y ≡ Some m) (made : y ≢ Root) (agree : Agrees t u (removal_cells t y)) where
     kids_same : (q : NodeId) → is_hit t y q ≡ true → children t q ≡ children u q
@@ -103,7 +103,7 @@ module _ (t u : Nodes) (f : IsFormed t) (g : IsFormed u) (o : IsOrderedTree t) (
     listed_hit q h = let n = stands q h in hit_of t y q n.0 n.1 (is_within t f y q h)
 
     node_same : (q : NodeId) → is_hit t y q ≡ true → get t q ≡ get u q
-    node_same q h = one_node t u o p q (λ k. slot_agrees t u f g y m here made agree q k h) (node_agrees t u f g y m here made agree q h)
+    node_same q h = one_node t u matched q (λ k. slot_agrees t u f g y m here made agree q k h) (node_agrees t u f g y m here made agree q h)
 
     creations_same : (xs : List NodeId) → ((q : NodeId) → Has q xs → is_hit t y q ≡ true) → creations t xs ≡ creations u xs
     creations_same [] h = refl
@@ -175,13 +175,11 @@ module _ (t u : Nodes) (f : IsFormed t) (g : IsFormed u) (o : IsOrderedTree t) (
   reverse_same b h = let a = Agrees-append t u (reads t b) (writes t b) h in reverse_by b a.0 a.1 _ refl
 
 -- a list's reversal
-pub reversals_same : (t u : Nodes) → IsFormed t → IsFormed u → IsOrderedTree t → IsOrderedTree u → (bs : List Body) → AreOrderedBodies bs → Agrees t u (cells_all t bs) → reverse_all t bs ≡ reverse_all u bs
-reversals_same t u f g o p [] hb h = refl
-reversals_same t u f g o p (b ∷ bs) hb h =
-    let a = Agrees-append t u (reads t b ++ writes t b) (cells_all (step t b) bs) h in
-    let l = local t u f g b a.0 in
-    ap (λ cs. cs ++ reverse t b) (reversals_same (step t b) (step u b) (formed-step t f b) (formed-step u g b) (ordered_step t b o hb.0) (ordered_step u b p hb.0) bs hb.1 (agrees_kept t u (step t b) (step u b) l.kept (cells_all (step t b) bs) a.1))
-    ∙ ap (λ cs. reverse_all (step u b) bs ++ cs) (reverse_same t u f g o p b a.0)
+pub reversals_same : (t u : Nodes) → IsFormed t → IsFormed u → AreMatched t u → (bs : List Body) → Agrees t u (cells_all t bs) → reverse_all t bs ≡ reverse_all u bs
+reversals_same t u f g m [] h = refl
+reversals_same t u f g m (b ∷ bs) h =
+    ap (λ cs. cs ++ reverse t b) (reversals_same (step t b) (step u b) (formed-step t f b) (formed-step u g b) ((local t u f g b (agrees_first t u f g b bs h)).kept.matched m) bs (agrees_rest t u f g b bs h))
+    ∙ ap (λ cs. reverse_all (step u b) bs ++ cs) (reverse_same t u f g m b (agrees_first t u f g b bs h))
 
 pub undo_restores : UndoRestores
 undo_restores s t bs zs fs ft os ot hb hz agree apart =
@@ -190,7 +188,7 @@ undo_restores s t bs zs fs ft os ot hb hz agree apart =
     let oq = ordered_fold t zs ot hz in
     let off : meets (writes_all t zs) (cells_all t bs) ≡ false = not_true _ (both (not (meets (writes_all t zs) (cells_all t bs))) _ apart).0 in
     let same : reverse_all s bs ≡ reverse_all q bs =
-    reversals_same s t fs ft os ot bs hb agree
-    ∙ reversals_same t q ft fq ot oq bs hb (agrees_off t q (writes_all t zs) (framed_fold t ft zs) (cells_all t bs) off) in
+    reversals_same s t fs ft (ordered_matched s t os ot) bs agree
+    ∙ reversals_same t q ft fq (ordered_matched t q ot oq) bs (agrees_off t q (writes_all t zs) (framed_fold t ft zs) (cells_all t bs) off) in
     ap (λ (v : Nodes). fold v (reverse_all s bs)) (sym (either_order t zs bs ft ot hz hb apart))
     ∙ ap (fold (fold q bs)) same ∙ reversible q bs fq oq hb

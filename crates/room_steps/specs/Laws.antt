@@ -1,5 +1,5 @@
 -- Laws of steps and folds: what operations touch, and what takes them back.
-use Rattle.std.specs.Prelude.{◌≡◌, Bool, false, true, List}
+use Rattle.std.specs.Prelude.{◌≡◌, false, true, List}
 use Rattle.room_nodes.specs.declared.nodes.Body.{Body}
 use Rattle.room_nodes.specs.declared.cells.Cell.{Cell}
 use Rattle.room_nodes.specs.Cells.{Agrees, AgreesOn, IsApart, cells_all, overlaps_some, writes_all}
@@ -56,11 +56,12 @@ abbrev pub UndoRestores : Type 0
 UndoRestores = (s t : Nodes) (bs zs : List Body) → IsFormed s → IsFormed t → IsOrderedTree s → IsOrderedTree t → AreOrderedBodies bs → AreOrderedBodies zs →
     Agrees s t (cells_all s bs) → IsApart t zs bs → fold (fold (fold t bs) zs) (reverse_all s bs) ≡ fold t zs
 
--- what stays where trees agree on the cells of operations: these cells, and what takes the operations back
+-- what stays where trees agree on the cells of operations: these cells, and what takes the operations back. This puts
+-- whole nodes back, so fields stand in order: nodes whose fields differ in their order alone agree on every cell
 pub record SameOnCells : Type 0 where
   pub cells : (t u : Nodes) (bs : List Body) → IsFormed t → IsFormed u → Agrees t u (cells_all t bs) → cells_all u bs ≡ cells_all t bs
   pub writes : (t u : Nodes) (bs : List Body) → IsFormed t → IsFormed u → Agrees t u (cells_all t bs) → writes_all u bs ≡ writes_all t bs
-  pub reversal : (t u : Nodes) (bs : List Body) → IsFormed t → IsFormed u → Agrees t u (cells_all t bs) → reverse_all u bs ≡ reverse_all t bs
+  pub reversal : (t u : Nodes) (bs : List Body) → IsFormed t → IsFormed u → IsOrderedTree t → IsOrderedTree u → Agrees t u (cells_all t bs) → reverse_all u bs ≡ reverse_all t bs
 
 -- the cells of operations that are apart from others stay as they were behind these
 abbrev pub CellsStay : Type 0

@@ -29,7 +29,8 @@ pub fn footprints()
     ensures { Footprints }
 {}
 
-/// On two trees that agree on the cells of operations these cells are the same, and so is what takes the operations back.
+/// On two trees that agree on the cells of operations these cells are the same, and so is what takes the operations back
+/// where both trees have their fields in byte order of their names, each name once.
 pub fn same_on_cells()
     ensures { SameOnCells }
 {}

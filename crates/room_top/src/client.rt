@@ -158,9 +158,7 @@ impl<T: Tree> Client<T> {
         if self.confirmed.is_none() {
             return Ok(());
         }
-        let Some(end) = end_of(self.told, self.batches.as_slice()) else {
-            return Err(NoMemory);
-        };
+        let end = end_of(self.told, self.batches.as_slice());
         let Some(first) = end.checked_add(1) else {
             return Err(NoMemory);
         };
@@ -222,9 +220,7 @@ impl<T: Tree> Client<T> {
         ensures ok { IfOk result (λ us. us.items ≡ (whole_comes self.old seq last tree self.old.stage).1) }
         ensures new { OnOk result (self.new ≡ (whole_comes self.old seq last tree self.old.stage).0) }
     {
-        let Some(end) = end_of(self.told, self.batches.as_slice()) else {
-            return Err(NoMemory);
-        };
+        let end = end_of(self.told, self.batches.as_slice());
         let Some(next) = last.checked_add(1) else {
             return Err(NoMemory);
         };
@@ -294,9 +290,7 @@ impl<T: Tree> Client<T> {
         ensures ok { OnOk result (self.new ≡ (update_comes self.old seq ops.now self.old.stage).0) }
         ensures none { (update_comes self.old seq ops.now self.old.stage).1 ≡ [] }
     {
-        let Some(end) = end_of(self.told, self.batches.as_slice()) else {
-            return Err(NoMemory);
-        };
+        let end = end_of(self.told, self.batches.as_slice());
         let Some(n) = self.n.checked_add(1) else {
             return Err(NoMemory);
         };

@@ -45,28 +45,15 @@ pub(crate) fn frames_of(alloc: Global, actor: u64, batches: &[Batch]) -> Result<
     Ok(frames)
 }
 
-/// The last clock of a batch.
-pub(crate) fn last_of(batch: &Batch) -> Option<u64>
-    ensures { IfSome result (λ c. c ≡ last_clock batch.now) }
-{
-    match batch.first().checked_add(batch.bodies().len() as u64) {
-        Some(c) => Some(c.saturating_sub(1)),
-        None => None,
-    }
-}
-
 /// The last clock that was issued.
-pub(crate) fn end_of(told: u64, batches: &[Batch]) -> Option<u64>
-    ensures { IfSome result (λ c. c ≡ ends told batches.now) }
+pub(crate) fn end_of(told: u64, batches: &[Batch]) -> u64
+    ensures { result ≡ ends told batches.now }
 {
     let mut end = told;
     for batch in batches {
-        match last_of(batch) {
-            Some(c) => end = c,
-            None => return None,
-        }
+        end = batch.last();
     }
-    Some(end)
+    end
 }
 
 /// The greatest own clock in an update, if its own clocks run on and were issued.
@@ -89,7 +76,7 @@ pub(crate) fn take_own(actor: u64, limit: u64, told: u64, ops: &[Op]) -> Option<
 fn is_beyond(c: u64, batch: &Batch) -> bool
     ensures { result ≡ nat_lt c (last_clock batch.now) }
 {
-    (c as u128) < (batch.first() as u128 + batch.bodies().len() as u128).saturating_sub(1)
+    c < batch.last()
 }
 
 /// How many batches stay beyond a clock.

@@ -1,5 +1,6 @@
-ghost use Rattle.std.specs.Prelude.{◌≡◌, ◌++◌, ◌-◌, ◌∷◌, [], max, drop, length, OnOk, OnErr, IfOk};
+ghost use Rattle.std.specs.Prelude.{◌≡◌, ◌≤◌, ◌++◌, ◌+◌, ◌-◌, ◌^◌, ◌∷◌, [], max, drop, length, OnOk, OnErr, IfOk};
 ghost use Rattle.room_nodes.specs.Shape.{empty_tree};
+ghost use Rattle.room_top.specs.Account.{last_clock};
 
 use room_json::{Copied, Members, NoMemory, Seq};
 use std::alloc::Global;
@@ -86,7 +87,7 @@ impl Copied for Op {
     }
 }
 
-/// A closed batch: each operation has the clock after that of the one before it.
+/// A closed batch: each operation has the clock after that of the one before it, and the last a clock of 64 bits.
 #[derive(Drop)]
 pub(crate) struct Batch {
     first: u64,
@@ -94,6 +95,7 @@ pub(crate) struct Batch {
 }
 
 impl Model for Batch {
+    ghost use Rattle.std.specs.Prelude.{◌≤◌, ◌+◌, ◌^◌, length};
     ghost use Rattle.room_top.specs.Messages.{Batch as Meaning};
     ghost use Rattle.std.specs.Coded.{codes};
     ghost use Rattle.room_top.specs.Codes.{body_code};
@@ -103,6 +105,8 @@ impl Model for Batch {
     ghost coded = { Prim.hlevel (codes, body_code) };
 
     ghost view = { λ b. record { first = b.first; bodies = b.bodies.items } };
+
+    ghost invariant = { λ b. b.first + length b.bodies.items ≤ 2 ^ 64 };
 }
 
 /// What goes up.
@@ -145,6 +149,7 @@ pub(crate) enum Stage {
 
 impl Batch {
     pub(crate) fn new(first: u64, bodies: Vec<Change>) -> Batch
+        requires { first + length bodies.items ≤ 2 ^ 64 }
         ensures { result ≡ record { first = first; bodies = bodies.items } }
     {
         Batch { first, bodies }
@@ -160,6 +165,16 @@ impl Batch {
         ensures { result.now ≡ self.now.bodies }
     {
         self.bodies.as_slice()
+    }
+
+    /// The last operation's clock.
+    pub(crate) fn last(&self) -> u64
+        ensures { result ≡ last_clock self.now }
+    {
+        if self.bodies.is_empty() {
+            return self.first.saturating_sub(1);
+        }
+        self.first + (self.bodies.len() as u64 - 1)
     }
 
     /// Lets go of the operations with clocks below `next`.

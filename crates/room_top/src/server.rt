@@ -81,20 +81,18 @@ fn to_fetched(alloc: Global, message: &Down, links: &[(u64, Link)]) -> Result<Se
     Ok(sends)
 }
 
-fn is_running(first: u64, ops: &[Op]) -> Option<bool>
-    ensures { IfSome result (λ b. b ≡ runs_on first ops.now) }
+fn is_running(first: u64, ops: &[Op]) -> bool
+    ensures { result ≡ runs_on first ops.now }
 {
-    let mut clock = first;
+    // one more than the last clock of 64 bits fits
+    let mut clock = first as u128;
     for op in ops {
-        if op.clock != clock {
-            return Some(false);
+        if op.clock as u128 != clock {
+            return false;
         }
-        match clock.checked_add(1) {
-            Some(next) => clock = next,
-            None => return None,
-        }
+        clock += 1;
     }
-    Some(true)
+    true
 }
 
 /// Drops old clocks.
@@ -267,10 +265,7 @@ impl<T: Tree> Server<T> {
         let Some(next) = last.checked_add(1) else {
             return Err(NoMemory);
         };
-        let Some(runs) = is_running(next, rest) else {
-            return Err(NoMemory);
-        };
-        if !runs {
+        if !is_running(next, rest) {
             return Ok(Vec::new(alloc));
         }
         let bodies = bodies_in(alloc, rest)?;

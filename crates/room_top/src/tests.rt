@@ -1,26 +1,34 @@
 ghost use Rattle.std.specs.Prelude.{Some};
 
 use super::*;
-use room_edge::{MemSink, MemSource, Sink, SinkFault, Source};
+use room_edge::{MemSink, MemSource, Sink, SinkFault};
 use room_json::Bytes;
 use room_tree::PlainTree;
 use std::test::Fail;
 
-fn bytes_of(rt: &HostRuntime, text: &[u8]) -> Result<Bytes, Fail> {
-    let mut bytes = Bytes::new(rt.alloc());
-    for byte in text {
-        bytes.push(*byte)?;
-    }
-    Ok(bytes)
+const FIRST: &[u8] =
+    b"dial 1\ndrain 100\nedit 1 set root title 7\nshow 1\nflush 1\ndrain 100\nshow 1\nshow server\n";
+
+const SHOWN: &[u8] =
+    b"client 1 n 0 pending 1 {\"title\":7}\nclient 1 n 1 pending 0 {\"title\":7}\nserver n 1 {\"title\":7}\n";
+
+const USAGE: &[u8] = b"usage: room replay|serve|client|show|gen|patch|rooms\n";
+
+/// A run: its words, its input, and the numbers of the calls that fail.
+#[derive(Clone, Copy)]
+struct Case {
+    words: &'static [&'static str],
+    input: &'static [u8],
+    read_fails: &'static [u64],
+    write_fails: &'static [u64],
 }
 
-fn numbers(rt: &HostRuntime, numbers: &[u64]) -> Result<Vec<u64>, Fail> {
-    let mut list = Vec::new(rt.alloc());
-    for number in numbers {
-        list.push(*number)?;
-    }
-    Ok(list)
-}
+const REPLAY: Case = Case {
+    words: &["replay"],
+    input: FIRST,
+    read_fails: &[],
+    write_fails: &[],
+};
 
 fn words_of(rt: &HostRuntime, words: &[&str]) -> Result<Vec<String>, Fail> {
     let mut list = Vec::new(rt.alloc());
@@ -30,168 +38,103 @@ fn words_of(rt: &HostRuntime, words: &[&str]) -> Result<Vec<String>, Fail> {
     Ok(list)
 }
 
-/// Runs over an input with failing calls, and answers whether the status and what was written are these.
-fn gives(
-    rt: &HostRuntime,
-    words: &[&str],
-    input: &[u8],
-    fails: (&[u64], &[u64]),
-    status: u8,
-    output: &str,
-) -> Result<bool, Fail> {
-    let words = words_of(rt, words)?;
-    let mut source = MemSource::new(bytes_of(rt, input)?, numbers(rt, fails.0)?);
-    let mut sink = MemSink::new(rt.alloc(), numbers(rt, fails.1)?);
+fn bytes_of(rt: &HostRuntime, bytes: &[u8]) -> Result<Bytes, Fail> {
+    let mut list = Vec::new(rt.alloc());
+    list.extend_from_slice(bytes)?;
+    Ok(Bytes::from_vec(list))
+}
+
+fn numbers(rt: &HostRuntime, numbers: &[u64]) -> Result<Vec<u64>, Fail> {
+    let mut list = Vec::new(rt.alloc());
+    list.extend_from_slice(numbers)?;
+    Ok(list)
+}
+
+/// Whether a case answers this status and writes these bytes.
+fn gives(rt: &HostRuntime, case: &Case, status: u8, output: &[u8]) -> Result<bool, Fail> {
+    let words = words_of(rt, case.words)?;
+    let mut source = MemSource::new(bytes_of(rt, case.input)?, numbers(rt, case.read_fails)?);
+    let mut sink = MemSink::new(rt.alloc(), numbers(rt, case.write_fails)?);
     let answer = run::<PlainTree, _, _>(rt.alloc(), words.as_slice(), &mut source, &mut sink);
-    Ok(answer == status && sink.written() == output.as_bytes())
+    Ok(answer == status && sink.written().as_slice() == output)
 }
 
-const FIRST: &str =
-    "dial 1\ndrain 100\nedit 1 set root title 7\nshow 1\nflush 1\ndrain 100\nshow 1\nshow server\n";
-
-const SHOWN: &str =
-    "client 1 n 0 pending 1 {\"title\":7}\nclient 1 n 1 pending 0 {\"title\":7}\nserver n 1 {\"title\":7}\n";
-
 #[test]
-fn runs_schedules(rt: HostRuntime) -> Result<(), Fail> {
-    assert!(rt; gives(&rt, &["replay"], FIRST.as_bytes(), (&[], &[]), 0, SHOWN)?);
-    let table = [
-        ("", ""),
-        ("show 1", "client 1 not loaded\n"),
-        ("# \u{e9}\n\nshow server\n", "server n 0 {}\n"),
-        ("edit 1 set root a 1\n", "refused 1 NotLoaded\n"),
+fn answers_words_and_input(rt: HostRuntime) -> Result<(), Fail> {
+    for words in [&[][..], &["serve"], &["replay", "x"]] {
+        assert!(rt; gives(&rt, &Case { words, ..REPLAY }, 2, USAGE)?);
+    }
+    for (input, status, output) in [
+        (FIRST, 0, SHOWN),
+        (b"", 0, b""),
         (
-            "dial 1\ndrain 2\nedit 1 set root a 1\nshow 1\n",
-            "refused 3 NotLoaded\nclient 1 not loaded\n",
-        ),
-        (
-            "dial 1\ndrain 4\nedit 1 set root a -1\nedit 1 set root a 2\nshow 1\nflush 1\ndrain 1\nshow server\nshow 1\ndrain 2\nshow 1\n",
-            "client 1 n 0 pending 2 {\"a\":2}\nserver n 1 {\"a\":-1}\nclient 1 n 0 pending 2 {\"a\":2}\nclient 1 n 1 pending 1 {\"a\":2}\n",
-        ),
-    ];
-    for row in table {
-        assert!(rt; gives(&rt, &["replay"], row.0.as_bytes(), (&[], &[]), 0, row.1)?);
-    }
-    Ok(())
-}
-
-#[test]
-fn refuses_bad_lines(rt: HostRuntime) -> Result<(), Fail> {
-    let table = [
-        ("dial 1\nfoo", "bad line 2\n"),
-        ("dial 1\ndial 1\n", "bad line 2\n"),
-        ("dial  1\n", "bad line 1\n"),
-        ("drain 01\n", "bad line 1\n"),
-        ("drain 18446744073709551616\n", "bad line 1\n"),
-        ("edit 1 set root A 1\n", "bad line 1\n"),
-        ("edit 1 set root a -0\n", "bad line 1\n"),
-        ("edit 1 set root a 9007199254740992\n", "bad line 1\n"),
-        (
-            "edit 1 set root abcdefghijklmnopqrstuvwxyzabcdefg 1\n",
-            "bad line 1\n",
-        ),
-        (" #\n", "bad line 1\n"),
-    ];
-    for row in table {
-        assert!(rt; gives(&rt, &["replay"], row.0.as_bytes(), (&[], &[]), 6, row.1)?);
-    }
-    let limits =
-        "drain 18446744073709551615\ndial 1\ndrain 4\nedit 1 set root abcdefghijklmnopqrstuvwxyzabcdef -9007199254740991\nshow 1";
-    let shown = "client 1 n 0 pending 1 {\"abcdefghijklmnopqrstuvwxyzabcdef\":-9007199254740991}\n";
-    assert!(rt; gives(&rt, &["replay"], limits.as_bytes(), (&[], &[]), 0, shown)?);
-    Ok(())
-}
-
-/// Whether this line is bad, alone.
-fn is_bad(rt: &HostRuntime, line: &str) -> Result<bool, Fail> {
-    gives(
-        rt,
-        &["replay"],
-        line.as_bytes(),
-        (&[], &[]),
-        6,
-        "bad line 1\n",
-    )
-}
-
-#[test]
-fn knows_one_client(rt: HostRuntime) -> Result<(), Fail> {
-    for line in ["dial 2", "flush 2", "show 2", "up 1", "down 1"] {
-        assert!(rt; is_bad(&rt, line)?, "{line}");
-    }
-    assert!(rt; is_bad(&rt, "edit 2 set root a 1")?);
-    Ok(())
-}
-
-#[test]
-fn edits_set_whole_numbers_of_the_root(rt: HostRuntime) -> Result<(), Fail> {
-    assert!(rt; is_bad(&rt, "edit 1 set 1:1 a 1")?);
-    // no name, no number, zeros in front of it
-    for line in [
-        "edit 1 set root  1",
-        "edit 1 set root a",
-        "edit 1 set root a ",
-        "edit 1 set root a 01",
-        "edit 1 set root a -0",
-    ] {
-        assert!(rt; is_bad(&rt, line)?, "{line}");
-    }
-    Ok(())
-}
-
-#[test]
-fn counts_skipped_lines(rt: HostRuntime) -> Result<(), Fail> {
-    let bad = b"\n# a\n\nfoo\n";
-    assert!(rt; gives(&rt, &["replay"], bad, (&[], &[]), 6, "bad line 4\n")?);
-    let refused = b"#\n\nedit 1 set root a 1\n";
-    assert!(rt;
-        gives(
-            &rt,
-            &["replay"],
-            refused,
-            (&[], &[]),
+            b"#\xff\n\nedit 1 set root a 1\nshow 1\nshow server",
             0,
-            "refused 3 NotLoaded\n"
-        )?
-    );
-    assert!(rt; gives(&rt, &["replay"], b"#\xff\n", (&[], &[]), 0, "")?);
-    Ok(())
-}
-
-const USAGE: &str = "usage: room replay|serve|client|show|gen|patch|rooms\n";
-
-#[test]
-fn knows_one_word(rt: HostRuntime) -> Result<(), Fail> {
-    assert!(rt; gives(&rt, &[], b"", (&[], &[]), 2, USAGE)?);
-    assert!(rt; gives(&rt, &["serve"], b"", (&[], &[]), 2, USAGE)?);
-    assert!(rt; gives(&rt, &["replay", "x"], b"", (&[], &[]), 2, USAGE)?);
-    assert!(rt; gives(&rt, &["serve"], b"", (&[], &[1]), 4, "")?);
-    Ok(())
-}
-
-#[test]
-fn tells_faults_of_the_source(rt: HostRuntime) -> Result<(), Fail> {
-    // the first call, and the one that would give the end
-    for call in [1u64, 2] {
-        let fault = gives(
-            &rt,
-            &["replay"],
-            FIRST.as_bytes(),
-            (&[call], &[]),
-            3,
-            "read fault\n",
-        )?;
-        assert!(rt; fault, "{call}");
+            b"refused 3 NotLoaded\nclient 1 not loaded\nserver n 0 {}\n",
+        ),
+        (
+            b"dial 1\ndrain 4\nedit 1 set root a -1\nedit 1 set root a 2\nflush 1\ndrain 1\nshow server\nshow 1\ndrain 2\nshow 1\n",
+            0,
+            b"server n 1 {\"a\":-1}\nclient 1 n 0 pending 2 {\"a\":2}\nclient 1 n 1 pending 1 {\"a\":2}\n",
+        ),
+        (b"dial 1\n#\ndial 1\n", 6, b"bad line 3\n"),
+        (b"drain 18446744073709551616\n", 6, b"bad line 1\n"),
+        (b"edit 1 set root a 9007199254740992\n", 6, b"bad line 1\n"),
+    ] {
+        assert!(rt;
+            gives(&rt, &Case { input, ..REPLAY }, status, output)?,
+            "{input:?}"
+        );
     }
     Ok(())
 }
 
 #[test]
-fn tells_faults_of_the_sink(rt: HostRuntime) -> Result<(), Fail> {
-    let first = FIRST.as_bytes();
-    assert!(rt; gives(&rt, &["replay"], first, (&[], &[1]), 4, "")?);
-    assert!(rt; gives(&rt, &["replay"], first, (&[2], &[1]), 4, "")?);
-    assert!(rt; gives(&rt, &["replay"], b"foo", (&[], &[1]), 4, "")?);
+fn tells_faults(rt: HostRuntime) -> Result<(), Fail> {
+    let serve = Case {
+        words: &["serve"],
+        ..REPLAY
+    };
+    // the first call, and the one that would give the end
+    for read_fails in [&[1][..], &[2]] {
+        assert!(rt;
+            gives(
+                &rt,
+                &Case {
+                    read_fails,
+                    ..REPLAY
+                },
+                3,
+                b"read fault\n"
+            )?
+        );
+        let write_fails = &[1];
+        assert!(rt;
+            gives(
+                &rt,
+                &Case {
+                    read_fails,
+                    write_fails,
+                    ..REPLAY
+                },
+                4,
+                b""
+            )?
+        );
+    }
+    for case in [serve, REPLAY] {
+        assert!(rt;
+            gives(
+                &rt,
+                &Case {
+                    write_fails: &[1],
+                    ..case
+                },
+                4,
+                b""
+            )?
+        );
+    }
     Ok(())
 }
 
@@ -221,71 +164,33 @@ impl Sink for Trickle {
     }
 }
 
-/// Runs the first schedule over a sink that holds so many bytes.
-fn trickled(rt: &HostRuntime, most: usize, status: u8, output: &[u8]) -> Result<bool, Fail> {
-    let words = words_of(rt, &["replay"])?;
-    let mut source = MemSource::new(bytes_of(rt, FIRST.as_bytes())?, numbers(rt, &[])?);
-    let mut sink = Trickle {
-        bytes: Vec::new(rt.alloc()),
-        most,
-        faults: 0,
-    };
-    let answer = run::<PlainTree, _, _>(rt.alloc(), words.as_slice(), &mut source, &mut sink);
-    Ok(answer == status && sink.bytes.as_slice() == output)
-}
-
 #[test]
 fn goes_on_after_a_short_write(rt: HostRuntime) -> Result<(), Fail> {
-    assert!(rt; trickled(&rt, 1000, 0, SHOWN.as_bytes())?);
-    Ok(())
-}
-
-#[test]
-fn leaves_a_first_part_where_the_sink_fails(rt: HostRuntime) -> Result<(), Fail> {
-    assert!(rt; trickled(&rt, 9, 4, b"client 1 ")?);
-    Ok(())
-}
-
-/// One line of a byte, so many times.
-fn line_of(rt: &HostRuntime, byte: u8, count: u64) -> Result<Bytes, Fail> {
-    let mut bytes = Bytes::new(rt.alloc());
-    for _at in 0..count {
-        bytes.push(byte)?;
+    let words = words_of(&rt, &["replay"])?;
+    for (most, status, output) in [(1000, 0, SHOWN), (9, 4, b"client 1 ")] {
+        let mut source = MemSource::new(bytes_of(&rt, FIRST)?, Vec::new(rt.alloc()));
+        let mut sink = Trickle {
+            bytes: Vec::new(rt.alloc()),
+            most,
+            faults: 0,
+        };
+        let answer = run::<PlainTree, _, _>(rt.alloc(), words.as_slice(), &mut source, &mut sink);
+        assert_eq!(rt; answer, status);
+        assert_eq!(rt; sink.bytes.as_slice(), output);
     }
-    Ok(bytes)
+    Ok(())
 }
 
 #[test]
 fn takes_an_input_of_the_limit(rt: HostRuntime) -> Result<(), Fail> {
     let words = words_of(&rt, &["replay"])?;
-    let mut source = MemSource::new(line_of(&rt, b'#', 16777216)?, numbers(&rt, &[])?);
-    let mut sink = MemSink::new(rt.alloc(), numbers(&rt, &[])?);
-    let answer = run::<PlainTree, _, _>(rt.alloc(), words.as_slice(), &mut source, &mut sink);
-    assert_eq!(rt; answer, 0);
-    assert_eq!(rt; sink.written(), &b""[..]);
-    Ok(())
-}
-
-#[test]
-fn stops_at_the_limit(rt: HostRuntime) -> Result<(), Fail> {
-    let words = words_of(&rt, &["replay"])?;
-    let mut source = MemSource::new(line_of(&rt, b' ', 16777217)?, numbers(&rt, &[])?);
-    let mut sink = MemSink::new(rt.alloc(), numbers(&rt, &[])?);
-    let answer = run::<PlainTree, _, _>(rt.alloc(), words.as_slice(), &mut source, &mut sink);
-    assert_eq!(rt; answer, 11);
-    assert_eq!(rt; sink.written(), &b"too long\n"[..]);
-    Ok(())
-}
-
-#[test]
-fn leaves_what_is_behind_the_limit(rt: HostRuntime) -> Result<(), Fail> {
-    let words = words_of(&rt, &["replay"])?;
-    let mut source = MemSource::new(line_of(&rt, b'#', 16777220)?, numbers(&rt, &[])?);
-    let mut sink = MemSink::new(rt.alloc(), numbers(&rt, &[])?);
-    let answer = run::<PlainTree, _, _>(rt.alloc(), words.as_slice(), &mut source, &mut sink);
-    assert_eq!(rt; answer, 11);
-    let mut buffer = [0u8; 8];
-    assert_eq!(rt; source.read(&mut buffer), Ok(3));
-    assert_eq!(rt; source.read(&mut buffer), Ok(0));
+    for (length, status, output) in [(16777216, 0, &b""[..]), (16777217, 11, b"too long\n")] {
+        let input = Bytes::from_vec(vec![in rt.alloc(); b'#'; length]?);
+        let mut source = MemSource::new(input, Vec::new(rt.alloc()));
+        let mut sink = MemSink::new(rt.alloc(), Vec::new(rt.alloc()));
+        let answer = run::<PlainTree, _, _>(rt.alloc(), words.as_slice(), &mut source, &mut sink);
+        assert_eq!(rt; answer, status);
+        assert_eq!(rt; sink.written().as_slice(), output);
+    }
     Ok(())
 }

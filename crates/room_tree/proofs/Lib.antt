@@ -5,4 +5,5 @@ pub mod Placing
 pub mod Scanning
 pub mod Sizes
 pub mod Skipping
+pub mod Soundness
 pub mod Vectors

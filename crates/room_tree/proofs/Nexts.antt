@@ -1,10 +1,9 @@
 -- The next child of a list and its key.
-use Rattle.std.proofs.Common.{◌≡◌, ◌≢◌, ℕ, Bool, true, false, cond, List, Option, Some, None, option_map, IfSome, refl, sym, ap, ◌∙◌}
+use Rattle.std.proofs.Common.{◌≡◌, ℕ, true, List, Option, Some, None, option_map, IfSome, refl, sym, ap, ◌∙◌}
 use Rattle.std.specs.FinMap.{get}
-use Rattle.room_ids.specs.Order.{is_same}
 use Rattle.room_nodes.specs.Shape.{Nodes, IsFormed, children, next_of}
 use Rattle.room_nodes.specs.Steps.{next_key, is_under, without}
-use Rattle.room_tree.specs.Skipped.{next_skip, key_of, is_own}
+use Rattle.room_tree.specs.Skipped.{next_skip, key_of}
 use Rattle.room_nodes.proofs.Gets.{some_inj}
 use Rattle.room_nodes.proofs.Children.{next_is_child}
 use Rattle.room_tree.proofs.Skipping.{next_key_skip, under_some}

@@ -13,7 +13,7 @@ use Rattle.room_ids.specs.Position.{is_some_text}
 use Rattle.room_nodes.specs.Steps.{on_fields, holds_object}
 use Rattle.room_nodes.specs.Primitives.{CanHold, with_fields_at, fields_in, kind_fields}
 use Rattle.room_nodes.proofs.StepForm.{at_node}
-use Rattle.room_nodes.proofs.Gets.{some_inj, some_none, same, get_here, get_other, here_or_old, one_or_two, true_false, same_self, differ}
+use Rattle.room_nodes.proofs.Gets.{some_inj, some_none, same, get_here, get_other, one_or_two, true_false, same_self, differ}
 use Rattle.room_nodes.proofs.Fitting.{the_parent, the_root}
 use Rattle.room_nodes.proofs.Undoing.{parent_other}
 use Rattle.room_nodes.proofs.Listing.{Has, has_above, parts}
@@ -22,7 +22,7 @@ use Rattle.room_nodes.proofs.Places.{next_none, next_is, children_sorted, not_be
 use Rattle.room_tree.specs.Nearest.{is_after}
 use Rattle.room_tree.specs.Copying.{Among, Once, Nothing, ToCome, IsCopying, IsInHand}
 use Rattle.room_tree.proofs.Skipping.{listed}
-use Rattle.room_tree.proofs.Sizes.{part_less, part_len}
+use Rattle.room_tree.proofs.Sizes.{part_less}
 use Rattle.room_ids.specs.declared.ids.NodeId.{NodeId}
 use Rattle.room_ids.specs.declared.ids.NodeId.TheVariants.{Root}
 use Rattle.room_nodes.specs.declared.nodes.Node.{Node}

@@ -1,20 +1,18 @@
 -- What settling finds, and what settlement is.
 use Rattle.std.proofs.Common.{◌≡◌, ◌≢◌, ℕ, Bool, true, false, cond, not, ◌&&◌, ◌||◌, List, length, nat_le, Option, Some, None, option_map, is_some, Result, Ok, Err, IfOk, IfSome, refl, sym, ap, ◌∙◌, subst}
-use Rattle.std.specs.Ordering.{nat_cmp}
-use Rattle.std.specs.Cmp.Lexicographic.{slice_cmp}
 use Rattle.std.specs.FinMap.{get, entries}
-use Rattle.room_ids.specs.Position.{is_pos, between, is_some_text, is_spelled, IsBelow}
+use Rattle.room_ids.specs.Position.{is_pos, between, IsBelow}
 use Rattle.room_ids.specs.Order.{is_same}
 use Rattle.room_nodes.specs.Shape.{Nodes, IsFormed, is_list, children, child_at, is_below, next_of, up}
-use Rattle.room_nodes.specs.Steps.{is_under, is_void, is_other, is_placed, next_key, without, without_replaced, holds_list, holds_object, has_room, settled_body, settled_key}
+use Rattle.room_nodes.specs.Steps.{is_under, is_void, is_other, is_placed, next_key, without, without_replaced, holds_list, has_room, settled_body, settled_key}
 use Rattle.room_nodes.proofs.Gets.{some_inj, get_kept}
-use Rattle.room_nodes.proofs.Fitting.{Fits, both, the_parent}
+use Rattle.room_nodes.proofs.Fitting.{Fits, the_parent}
 use Rattle.room_nodes.proofs.Below.{parent_not_below}
 use Rattle.room_nodes.proofs.Formed.{formed-removed}
 use Rattle.room_nodes.proofs.Children.{next_is_child}
 use Rattle.room_nodes.proofs.Places.{next_is, children_sorted}
 use Rattle.room_nodes.proofs.Steps.{list_there}
-use Rattle.room_tree.specs.Settlement.{settlement, moved, moved_in, placed_in, list_of, fitting, live_body, with_key, settled_by}
+use Rattle.room_tree.specs.Settlement.{settlement, moved, moved_in, placed_in, list_of, live_body, settled_by}
 use Rattle.room_tree.proofs.Skipping.{under_some}
 use Rattle.room_ids.specs.declared.ids.NodeId.{NodeId}
 use Rattle.room_ids.specs.declared.ids.NodeId.TheVariants.{Root}

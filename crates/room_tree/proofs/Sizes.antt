@@ -1,7 +1,6 @@
 -- A part of a tree has no more nodes.
-use Rattle.std.proofs.Common.{◌≡◌, ◌≢◌, ◌⊎◌, inl, inr, ◌≤◌, ◌<◌, ◌+◌, ◌-◌, ℕ, zero, suc, Bool, true, false, cond, List, [], ◌∷◌, length, Option, Some, None, is_some, refl, sym, ap, ◌∙◌, arith}
+use Rattle.std.proofs.Common.{◌≡◌, ◌⊎◌, inl, inr, ◌≤◌, ◌<◌, ◌-◌, ℕ, zero, suc, Bool, true, false, cond, List, [], ◌∷◌, length, Some, None, is_some, refl, sym, ap, ◌∙◌, arith}
 use Rattle.std.specs.FinMap.{get, remove, len, len-remove, len-entries, entries, contains_key}
-use Rattle.room_ids.specs.Order.{node_cmp}
 use Rattle.room_ids.proofs.IdOrder.{node_cmp-total}
 use Rattle.room_nodes.specs.Shape.{Nodes}
 use Rattle.room_nodes.proofs.Gets.{some_none, get_without, get_beside, one_or_two}

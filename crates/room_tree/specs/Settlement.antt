@@ -8,7 +8,7 @@ use Rattle.room_ids.specs.Order.{is_same}
 use Rattle.room_ids.specs.declared.ids.NodeId.{NodeId}
 use Rattle.room_ids.specs.declared.ids.NodeId.TheVariants.{Root}
 use Rattle.room_nodes.specs.declared.nodes.Body.{Body}
-use Rattle.room_nodes.specs.declared.nodes.Body.TheVariants.{SetKey, Create, Update, Delete, DeleteKey}
+use Rattle.room_nodes.specs.declared.nodes.Body.TheVariants.{SetKey, Create}
 use Rattle.room_tree.specs.declared.settling.Settled.{Settled}
 use Rattle.room_tree.specs.declared.settling.Settled.TheVariants.{Same, Moved, Void}
 

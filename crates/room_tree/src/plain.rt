@@ -6,6 +6,8 @@ ghost use Rattle.std.specs.FinMap.{is_sorted, from_sorted, find};
 ghost use Rattle.room_ids.specs.Order.{node_cmp};
 ghost use Rattle.room_tree.specs.Nearest.{place_of, found_of, is_after, keyed, lesser_key, nearest_of};
 ghost use Rattle.room_nodes.specs.Shape.{bare_root, IsFormed, is_child, child_entries, is_object};
+ghost use Rattle.room_nodes.specs.Sound.{IsSoundTree};
+ghost use Rattle.room_nodes.proofs.SoundOnce.{tree_once};
 ghost use Rattle.room_nodes.specs.Steps.{on_fields};
 ghost use Rattle.room_nodes.specs.declared.nodes.Node.{Node as NodeValue};
 ghost use Rattle.room_ids.specs.declared.ids.NodeId.{NodeId as IdValue};
@@ -14,7 +16,7 @@ ghost use Rattle.room_nodes.specs.Primitives.{kind_fields};
 
 use crate::tree::Tree;
 use room_ids::{NodeId, compare, same_id};
-use room_json::{Members, NoMemory, Text};
+use room_json::{Members, NoMemory, Sound, Text};
 use room_nodes::{Kind, Node};
 use std::alloc::Global;
 use std::cmp::Ordering;
@@ -25,6 +27,7 @@ pub struct PlainTree {
     entries: Vec<(NodeId, Node)>,
     ghost sorted: { IsTrue (is_sorted node_cmp entries.items) },
     ghost formed: { IsFormed (from_sorted entries.items) },
+    ghost sound: { IsSoundTree (from_sorted entries.items) } by { tree_once (from_sorted entries.items) },
 }
 
 fn lookup<'a>(entries: &'a [(NodeId, Node)], id: &NodeId) -> Option<&'a Node>
@@ -223,6 +226,8 @@ impl Tree for PlainTree {
 
     ghost formed = { λ t. t.formed };
 
+    ghost sound = { λ t. t.sound };
+
     fn empty(alloc: Global) -> Result<PlainTree, NoMemory> {
         let entries = only_root(alloc)?;
         Ok(PlainTree { entries })
@@ -255,6 +260,8 @@ impl Tree for PlainTree {
     }
 
     fn put(&mut self, id: NodeId, node: Node) {
+        id.sound();
+        node.sound();
         let at = place(self.entries.as_slice(), &id);
         insert_at(&mut self.entries, at, id, node);
     }
@@ -265,6 +272,7 @@ impl Tree for PlainTree {
     }
 
     fn swap_fields(&mut self, id: &NodeId, fields: Members) -> Members {
+        fields.sound();
         let at = place(self.entries.as_slice(), id);
         let (node, old) = take_fields(take_at(&mut self.entries, at), fields);
         insert_at(&mut self.entries, at, *id, node);
@@ -272,6 +280,7 @@ impl Tree for PlainTree {
     }
 
     fn swap_key(&mut self, id: &NodeId, key: Text) -> Text {
+        key.sound();
         let at = place(self.entries.as_slice(), id);
         let (node, old) = take_key(take_at(&mut self.entries, at), key);
         insert_at(&mut self.entries, at, *id, node);

@@ -4,6 +4,7 @@ ghost use Rattle.std.specs.FinMap as map;
 ghost use Rattle.room_ids.specs.Order.{node_cmp};
 ghost use Rattle.room_nodes.specs.declared.nodes.Node.{Node as NodeValue};
 ghost use Rattle.room_nodes.specs.Shape.{Nodes, empty_tree, IsFormed, IsFree, IsLeaf, children, child_at, next_of};
+ghost use Rattle.room_nodes.specs.Sound.{IsSoundTree};
 ghost use Rattle.room_nodes.specs.Primitives.{CanHold, CanStand, fields_in, key_in, with_fields_at, with_key_at};
 
 use room_ids::NodeId;
@@ -11,8 +12,9 @@ use room_json::{Members, NoMemory, Text};
 use room_nodes::Node;
 use std::alloc::Global;
 
-/// A well-formed tree of nodes, however it is kept: contracts see a finite map from id to node, and beside it `spare`, the number
-/// of nodes that can be put without taking memory.
+/// A well-formed tree of nodes, however it is kept: contracts see a finite map from id to node, and beside it `spare`,
+/// the number of nodes that can be put without taking memory. That ids are in range, texts UTF-8, values of the profile,
+/// and an object's fields in byte order of their names, each name once, is learnt from the type, at no cost.
 pub trait Tree: Drop {
     ghost nodes: { Self → map.FinMap node_cmp NodeValue };
 
@@ -75,4 +77,6 @@ pub trait Tree: Drop {
         ensures same { spare self.new ≡ spare self.old };
 
     ghost formed: { (t : Self) → IsFormed (nodes t) };
+
+    ghost sound: { (t : Self) → IsSoundTree (nodes t) };
 }

@@ -29,6 +29,8 @@ impl<T: Tree> Tree for CountingTree<T> {
 
     ghost formed = { λ t. T.formed t.inner };
 
+    ghost sound = { λ t. T.sound t.inner };
+
     fn empty(alloc: Global) -> Result<CountingTree<T>, NoMemory> {
         let inner = T::empty(alloc)?;
         Ok(CountingTree {

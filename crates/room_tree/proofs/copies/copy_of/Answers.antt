@@ -1,5 +1,5 @@
-use Rattle.std.proofs.Common.{rules, ◌≡◌, ◌≤◌, ◌+◌, ◌∷◌, ◌++◌, [], refl, sym, ap, ◌∙◌, subst, arith}
-use Rattle.std.specs.FinMap.{get, insert, len}
+use Rattle.std.proofs.Common.{rules, ◌≡◌, ◌∷◌, ◌++◌, [], refl, ap, ◌∙◌, subst, arith}
+use Rattle.std.specs.FinMap.{len}
 use Rattle.room_tree.specs.Copying.{IsCopying, Nothing}
 use Rattle.room_tree.proofs.Sizes.{part_len}
 use Rattle.room_tree.proofs.Parts.{root_copied, in_hand, copied, shorter_copy}

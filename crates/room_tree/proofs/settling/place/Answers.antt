@@ -1,4 +1,4 @@
-use Rattle.std.proofs.Common.{◌≡◌, IsSome, IfSome, true, subst, sym, ap, ◌∙◌}
+use Rattle.std.proofs.Common.{◌≡◌, IsSome, IfSome, true, subst, sym}
 use Rattle.std.specs.Option.{option_copied}
 use Rattle.room_ids.specs.Position.{is_pos, IsBelow}
 use Rattle.room_nodes.specs.Steps.{without}

@@ -1,4 +1,4 @@
-use Rattle.std.proofs.Common.{◌≡◌, IfOk, subst, sym, ap, ◌∙◌}
+use Rattle.std.proofs.Common.{sym, ap, ◌∙◌}
 use Rattle.room_tree.specs.Settlement.{settlement}
 use Rattle.room_tree.proofs.Placing.{if_ok}
 use Rattle.room_tree.proofs.settling.settle_body.Goals as goal

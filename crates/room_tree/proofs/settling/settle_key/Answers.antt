@@ -1,4 +1,4 @@
-use Rattle.std.proofs.Common.{◌≡◌, IfOk, subst, sym, ap, ◌∙◌}
+use Rattle.std.proofs.Common.{◌≡◌, IfOk, subst}
 use Rattle.room_tree.proofs.Placing.{key_settled}
 use Rattle.room_tree.proofs.settling.settle_key.Goals as goal
 

@@ -1,16 +1,12 @@
-use Rattle.std.proofs.Common.{◌≡◌, ◌≢◌, ℕ, true, not, List, Option, Some, None, IfSome, refl, sym, ap, ◌∙◌}
+use Rattle.std.proofs.Common.{◌≡◌, ℕ, true, List, Option, Some, None, IfSome, refl, sym, ap, ◌∙◌}
 use Rattle.std.specs.Option.{option_copied}
 use Rattle.std.specs.FinMap.{get}
 use Rattle.room_nodes.specs.Shape.{Nodes, IsFormed, child_at}
-use Rattle.room_ids.specs.Order.{is_same}
 use Rattle.room_nodes.specs.Steps.{is_other, is_under, without}
 use Rattle.room_tree.specs.Skipped.{skip}
-use Rattle.room_nodes.proofs.Gets.{some_inj, same, same_self, true_false}
-use Rattle.room_nodes.proofs.Fitting.{both, not_true}
+use Rattle.room_nodes.proofs.Gets.{some_inj}
 use Rattle.room_tree.proofs.Skipping.{child_skip, under_some}
 use Rattle.room_ids.specs.declared.ids.NodeId.{NodeId}
-use Rattle.room_ids.specs.declared.ids.NodeId.TheVariants.{Root}
-use Rattle.room_nodes.specs.declared.nodes.Node.{Node}
 use Rattle.room_tree.proofs.taking.is_taken.Goals as goal
 
 skipped : (t : Nodes) → IsFormed t → (p : NodeId) (k : List ℕ) (r : Option NodeId) (x : NodeId) → r ≡ Some x → IfSome r (λ y. is_under p y (get t y) ≡ true) → skip x (child_at t p k) ≡ child_at (without t r) p k

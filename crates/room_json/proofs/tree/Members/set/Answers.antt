@@ -1,8 +1,6 @@
-use Rattle.std.proofs.Common.{ap, ◌∙◌, sym, option_map}
-use Rattle.room_json.specs.View.{json_of}
-use Rattle.room_json.proofs.Views.{view-lookup}
+use Rattle.room_json.proofs.AlwaysJson.{json-insert_entry}
 use Rattle.room_json.proofs.tree.Members.set.Goals as goal
 
-pub returns-in-Ok-clause-old : goal.returns-in-Ok-clause-old
-returns-in-Ok-clause-old c =
-    rw (sym c.self.view_is) (ap (option_map json_of) c.in-Ok.ensures.old ∙ view-lookup c.args.name c.self.inside.entries.entries)
+pub invariant_of-self-2 : goal.invariant_of-self-2
+invariant_of-self-2 c =
+    rw c.in_ok-insert.ensures.entries (json-insert_entry c.self.inside.entries.entries c.args.name c.args.value c.self.invariant c.sound.ensures c.sound-2.ensures)

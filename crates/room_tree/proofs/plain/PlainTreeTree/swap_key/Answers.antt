@@ -1,11 +1,13 @@
 use Rattle.std.proofs.Common.{◌<◌, ◌≡◌, true, is_some, length, ◌∙◌, ap, sym, subst, arith}
 use Rattle.std.specs.FinMap.{from_sorted, insert, get}
 use Rattle.room_nodes.specs.Shape.{IsFormed}
+use Rattle.room_nodes.specs.Sound.{IsSoundTree}
 use Rattle.room_nodes.specs.Primitives.{key_in}
 use Rattle.room_ids.specs.Order.{node_cmp}
 use Rattle.room_tree.specs.Nearest.{place_of}
 use Rattle.room_nodes.proofs.Again.{again}
 use Rattle.room_nodes.proofs.StepForm.{at_node}
+use Rattle.room_tree.proofs.Soundness.{sound-key}
 use Rattle.room_tree.proofs.Vectors.{at_place, held, taken_is, swap_sorted, swap_map}
 use Rattle.room_nodes.specs.declared.nodes.Node.{Node}
 use Rattle.room_nodes.specs.declared.turns.Turn.TheVariants.{Key}
@@ -34,10 +36,11 @@ invariant_of-self c =
     let v = held es sorted k at here there in
     let n = c.take_key-node.result.0 in
     let is : n ≡ record v.0 { key = c.args.key } = c.take_key-node.ensures.node ∙ ap (λ (m : Node). record m { key = c.args.key }) (taken_is es sorted k at here there _ c.take_at.ensures.node) in
+    let same = sym (swap_map es sorted k at here there n _ _ c.take_at.ensures.items c.insert_at.ensures.items ∙ ap (insert (from_sorted es) k) is ∙ sym (at_node (from_sorted es) k (λ m. record m { key = c.args.key }) v.0 v.1)) in
     record {
       sorted = swap_sorted es sorted k at here there n _ _ c.take_at.ensures.items c.insert_at.ensures.items;
-      formed = subst IsFormed (sym (swap_map es sorted k at here there n _ _ c.take_at.ensures.items c.insert_at.ensures.items ∙ ap (insert (from_sorted es) k) is ∙ sym (at_node (from_sorted es) k (λ m. record m { key = c.args.key }) v.0 v.1)))
-          (again (from_sorted es) c.args.self.now.formed (Key k c.args.key) c.requires).formed;
+      formed = subst IsFormed same (again (from_sorted es) c.args.self.now.formed (Key k c.args.key) c.requires).formed;
+      sound = subst IsSoundTree same (sound-key (from_sorted es) c.args.self.now.sound k c.args.key c.sound.ensures);
     }
 
 pub returns-clause-key : goal.returns-clause-key

@@ -1,5 +1,0 @@
-use Rattle.room_model.proofs.SampleCases.{samples}
-use Rattle.room_model.proofs.samples.samples.Goals as goal
-
-pub returns : goal.returns
-returns c = samples
