@@ -40,6 +40,7 @@ mod Owns
 mod Patches
 mod Popped
 mod Queues
+mod ReadSound
 mod Refusals
 mod Reports
 mod Resumes

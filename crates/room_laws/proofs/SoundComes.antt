@@ -26,7 +26,7 @@ use Rattle.room_model.specs.Presence.{Others, nobody, other_full, other_patched,
 use Rattle.room_model.specs.Account.{Account, Batch, Part, Stage, Idle, Dialled, Connected, Synced, actor, issued, last_issued, beyond, is_on}
 use Rattle.room_model.specs.Comes as Comes
 use Rattle.room_model.specs.Sound.{IsValidTree, AreOwn, HasTree, AreItems, IsSound}
-use Rattle.room_laws.specs.Accounts.{IsSoundServerMsg, TreesAreValid}
+use Rattle.room_laws.specs.Accounts.{IsValidServerMsg, TreesAreValid}
 use Rattle.room_laws.proofs.ClockRuns.{beyond-append, ends_later}
 use Rattle.room_laws.proofs.ClocksKept.{told_later, second_none}
 use Rattle.room_laws.proofs.Open.{ok_is}
@@ -258,7 +258,7 @@ module _ (steps : StepsKeepSound) (depths : StepsKeepShallow) (trees : TreesAreV
   update_sound x seq os Dialled out h s l n p = cc
   update_sound x seq os Connected out h s l n p = cc
 
-  pub comes_sound : (x : Account) (m : ServerMsg) (out : Comes.Took) → IsSound x → IsSoundServerMsg m → Comes.comes x m ≡ Ok out → IsSound out.account
+  pub comes_sound : (x : Account) (m : ServerMsg) (out : Comes.Took) → IsSound x → IsValidServerMsg m → Comes.comes x m ≡ Ok out → IsSound out.account
   comes_sound x (server.Presence a target patch) out h m p = subst TookSound (over (is_on x.stage) (Comes.Unexpected 100) (Comes.took (Comes.presence_taken x a target patch)) out p) (shown_sound x a target patch h m.0 m.1)
   comes_sound x (server.Joined a) out h m p = subst TookSound (over (is_on x.stage) (Comes.Unexpected 101) _ out p) (others_sound x (forgotten x.others a) h (known_remove x.others a h.presence.known))
   comes_sound x (server.Left a) out h m p = subst TookSound (over (is_on x.stage) (Comes.Unexpected 102) _ out p) (others_sound x (forgotten x.others a) h (known_remove x.others a h.presence.known))

@@ -21,7 +21,8 @@ use Rattle.room_model.specs.World.{World, Conn, Seat, Stepped, Host, Running, St
 use Rattle.room_model.specs.Run.{seat_in, account}
 use Rattle.room_laws.specs.Accounts.{KeepsSound}
 use Rattle.room_laws.specs.Invariant.{conn_in}
-use Rattle.room_laws.specs.Validity.{AreLimits, AreSoundDowns, AreSoundUps, ClientFramesAreSound, IsSoundConn, IsSoundDown, IsSoundHost, IsSoundServer, IsSoundUp, IsSoundWorld, ItemsOfValid}
+use Rattle.room_laws.proofs.ReadSound.{read_sound}
+use Rattle.room_laws.specs.Validity.{AreLimits, AreSoundDowns, AreSoundUps, IsSoundConn, IsSoundDown, IsSoundHost, IsSoundServer, IsSoundUp, IsSoundWorld, ItemsOfValid}
 use Rattle.room_laws.proofs.Maps.{conn_same, conn_other, emptied_at, get_none}
 use Rattle.room_laws.proofs.Calls.{seat_same, seat_other}
 use Rattle.room_laws.proofs.SoundMaps.{each_put}
@@ -445,18 +446,13 @@ module _ (n : ℕ) (s : State) where
     state = limited_state w.host l ∙ h.state;
   }
 
-  module _ (reads : ClientFramesAreSound) where
-    read_sound : (text : List ℕ) (r : Up) → client_frame_in text ≡ r → IsSoundUp r
-    read_sound text (Err reason) e = tt
-    read_sound text (Ok f) e = reads text f e
+  raw_on : (w : World) (k : ℕ) (text : List ℕ) (o : Option ℕ) → Same n s w → IsReadSound (client_frame_in text) → Same n s (World.raw_on w k text o)
+  raw_on w k text None h i = send w k (client_frame_in text ∷ []) h (read_sound (client_frame_in text) i, tt)
+  raw_on w k text (Some c) h i = h
 
-    raw_on : (w : World) (k : ℕ) (text : List ℕ) (o : Option ℕ) → Same n s w → Same n s (World.raw_on w k text o)
-    raw_on w k text None h = send w k (client_frame_in text ∷ []) h (read_sound text (client_frame_in text) refl, tt)
-    raw_on w k text (Some c) h = h
-
-    raw_at : (w : World) (k : ℕ) (text : List ℕ) (o : Option Conn) → Same n s w → Same n s (World.raw_at w k text o)
-    raw_at w k text None h = h
-    raw_at w k text (Some q) h = raw_on w k text q.owner h
+  raw_at : (w : World) (k : ℕ) (text : List ℕ) (o : Option Conn) → Same n s w → IsReadSound (client_frame_in text) → Same n s (World.raw_at w k text o)
+  raw_at w k text None h i = h
+  raw_at w k text (Some q) h i = raw_on w k text q.owner h i
 
 -- one step after another
 
@@ -468,7 +464,7 @@ pub valid-append : (s : State) (es fs : List Entry) → IsValidLog s es → IsVa
 valid-append s [] fs h k = k
 valid-append s (e ∷ es) fs h k = (h.0, valid-append (after s e) es fs h.1 k)
 
-module _ (keep : KeepsSound) (items : ItemsOfValid) (reads : ClientFramesAreSound) (n : ℕ) where
+module _ (keep : KeepsSound) (items : ItemsOfValid) (n : ℕ) where
   then_stands : (s : State) (x y : Stepped) → Stands n s x → Stands n (state_after s x.entries) y → Stands n s (World.then_stepped x y)
   then_stands s x y h i = record {
     world = i.world;
@@ -529,4 +525,4 @@ module _ (keep : KeepsSound) (items : ItemsOfValid) (reads : ClientFramesAreSoun
   step_stands w number lines.Compact h i below key = quietly n _ _ (compact n _ w w.host refl (at _ w h refl))
   step_stands w number (lines.Limit updates sessions) h i below key = quietly n _ _ (limit n _ w (record { updates = updates; sessions = sessions }) (at _ w h refl) (record { updates = i.0; sessions = i.1 }))
   step_stands w number lines.Link h i below key = quietly n _ _ (open_conn n _ w None (at _ w h refl) below key)
-  step_stands w number (lines.Raw k text) h i below key = quietly n _ _ (raw_at n _ reads w k text (get w.conns k) (at _ w h refl))
+  step_stands w number (lines.Raw k text) h i below key = quietly n _ _ (raw_at n _ w k text (get w.conns k) (at _ w h refl) i)

@@ -36,7 +36,7 @@ use Rattle.room_model.specs.Server
 use Rattle.room_model.specs.Server.{Down, Pong, Message, Closed, Up, Link, Served}
 use Rattle.room_model.specs.Sound.{AreItems}
 use Rattle.room_model.specs.World.{entries_in}
-use Rattle.room_laws.specs.Validity.{AreSoundClientMsgs, IsActorOf, IsSoundClientMsg, IsSoundDown, IsSoundLink, IsSoundServer, IsSoundText, IsSoundUp, ItemsOfValid}
+use Rattle.room_laws.specs.Validity.{AreValidClientMsgs, IsActorOf, IsValidClientMsg, IsSoundDown, IsSoundLink, IsSoundServer, IsSoundText, IsSoundUp, ItemsOfValid}
 use Rattle.room_laws.proofs.SoundMaps.{Each, each_put, each_out, each_without}
 use Rattle.room_laws.proofs.SoundSends.{ops_fit}
 
@@ -322,7 +322,7 @@ module _ (v : Server.Server) (h : IsSoundServer v) where
     IsSoundHello None = ⊤
     IsSoundHello (Some hello) = IsSoundText hello.name
 
-    only_sound : (ms : List ClientMsg) → AreSoundClientMsgs ms → IsSoundHello (Server.only_hello ms)
+    only_sound : (ms : List ClientMsg) → AreValidClientMsgs ms → IsSoundHello (Server.only_hello ms)
     only_sound [] g = tt
     only_sound (client.Hello hello ∷ []) g = g.0.1
     only_sound (client.Hello hello ∷ m ∷ ms) g = tt
@@ -377,7 +377,7 @@ module _ (items : ItemsOfValid) (k a : ℕ) (low : a ≤ most_actor) where
   presence_sound v (Some (negsuc n)) patch m = to_others_sound v.links k (server.Presence a (Some (negsuc n)) patch) (low, m)
   presence_sound v (Some (pos b)) patch m = to_each_sound (Server.holds b) (Message (server.Presence a (Some (pos b)) patch)) (entries v.links) (low, m)
 
-  acts_calm : (v : Server.Server) (m : ClientMsg) → IsSoundServer v → IsSoundClientMsg m → Calm v (Server.acts v k a None m)
+  acts_calm : (v : Server.Server) (m : ClientMsg) → IsSoundServer v → IsValidClientMsg m → Calm v (Server.acts v k a None m)
   acts_calm v (client.Hello hello) h i = quiet v h [] tt
   acts_calm v (client.Presence target patch) h i = quiet v h _ (presence_sound v target patch i)
   acts_calm v (client.Broadcast e) h i = quiet v h _ (to_others_sound v.links k (server.Broadcast a e) (low, i))
@@ -391,14 +391,14 @@ module _ (items : ItemsOfValid) (k a : ℕ) (low : a ≤ most_actor) where
   none_after client.Fetch = refl
   none_after (client.Update os) = refl
 
-  talks : (v : Server.Server) (x : Served) (ms : List ClientMsg) → Goes v x → AreSoundClientMsgs ms → Goes v (Server.act_all x k a None ms)
+  talks : (v : Server.Server) (x : Served) (ms : List ClientMsg) → Goes v x → AreValidClientMsgs ms → Goes v (Server.act_all x k a None ms)
   talks v x [] g i = g
   talks v x (m ∷ ms) g i =
       let next = Server.then_served x (Server.acts x.server k a None m) in
       subst (λ o. Goes v (Server.act_all next k a o ms)) (sym (none_after m)) (talks v next ms (then_calm v x (Server.acts x.server k a None m) g (acts_calm x.server m g.server i.0)) i.1)
 
   module _ (v : Server.Server) (u : Update) (n : IsNext v.state (Updated u)) where
-    waits : (x : Served) (ms : List ClientMsg) → Calm v x → AreSoundClientMsgs ms → Goes v (Server.act_all x k a (Some u) ms)
+    waits : (x : Served) (ms : List ClientMsg) → Calm v x → AreValidClientMsgs ms → Goes v (Server.act_all x k a (Some u) ms)
     waits x [] c i = calm_goes v x c
     waits x (client.Update os ∷ ms) c i =
         let done = commits x.server u c.server (subst (λ s. IsNext s (Updated u)) (sym c.state) n) in
@@ -418,19 +418,19 @@ ops-append : (xs ys : List Op) → AreSoundOps xs × AreShallowOps xs → AreSou
 ops-append [] ys g i = i
 ops-append (x ∷ xs) ys g i = let more = ops-append xs ys (g.0.1, g.1.1) i in ((g.0.0, more.0), (g.1.0, more.1))
 
-ops_sound : (m : ClientMsg) → IsSoundClientMsg m → AreSoundOps (Server.ops_in m) × AreShallowOps (Server.ops_in m)
+ops_sound : (m : ClientMsg) → IsValidClientMsg m → AreSoundOps (Server.ops_in m) × AreShallowOps (Server.ops_in m)
 ops_sound (client.Hello hello) i = (tt, tt)
 ops_sound (client.Presence target patch) i = (tt, tt)
 ops_sound (client.Broadcast e) i = (tt, tt)
 ops_sound client.Fetch i = (tt, tt)
 ops_sound (client.Update os) i = i
 
-all_ops_sound : (ms : List ClientMsg) → AreSoundClientMsgs ms → AreSoundOps (Server.all_ops_in ms) × AreShallowOps (Server.all_ops_in ms)
+all_ops_sound : (ms : List ClientMsg) → AreValidClientMsgs ms → AreSoundOps (Server.all_ops_in ms) × AreShallowOps (Server.all_ops_in ms)
 all_ops_sound [] i = (tt, tt)
 all_ops_sound (m ∷ ms) i = ops-append (Server.ops_in m) (Server.all_ops_in ms) (ops_sound m i.0) (all_ops_sound ms i.1)
 
 module _ (items : ItemsOfValid) (v : Server.Server) (h : IsSoundServer v) (k : ℕ) where
-  module _ (l : Link) (i : IsSoundLink (length v.state.sessions) l) (a : ℕ) (in_list : (1 ≤ a) × (a ≤ length v.state.sessions)) (ms : List ClientMsg) (sound : AreSoundClientMsgs ms) where
+  module _ (l : Link) (i : IsSoundLink (length v.state.sessions) l) (a : ℕ) (in_list : (1 ≤ a) × (a ≤ length v.state.sessions)) (ms : List ClientMsg) (sound : AreValidClientMsgs ms) where
     low : a ≤ most_actor
     low = omega (arith, in_list, h.state.actors)
 
@@ -455,7 +455,7 @@ module _ (items : ItemsOfValid) (v : Server.Server) (h : IsSoundServer v) (k : �
     session_goes : Goes v (Server.session_frame v k l a ms)
     session_goes = by_shut v h k l i (Server.has_hello ms) 4400 (codes "bad frame " ++ Server.reason_text reason.Hello) (Server.owned v k l a ms (Server.foreign_in a (Server.all_ops_in ms))) (λ e. owned_goes (Server.foreign_in a (Server.all_ops_in ms)))
 
-  messages_goes : (l : Link) (ms : List ClientMsg) (o : Option ℕ) → IsSoundLink (length v.state.sessions) l → IsActorOf (length v.state.sessions) o → AreSoundClientMsgs ms → Goes v (Server.messages v k l ms o)
+  messages_goes : (l : Link) (ms : List ClientMsg) (o : Option ℕ) → IsSoundLink (length v.state.sessions) l → IsActorOf (length v.state.sessions) o → AreValidClientMsgs ms → Goes v (Server.messages v k l ms o)
   messages_goes l ms None i at sound = hello_goes v h k l i (Server.only_hello ms) (only_sound v h k l i ms sound)
   messages_goes l ms (Some a) i at sound = session_goes l i a at ms sound
 

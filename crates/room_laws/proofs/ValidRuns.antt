@@ -20,7 +20,7 @@ use Rattle.room_model.specs.Run.{Run, seat_in, line, run, opened}
 use Rattle.room_laws.specs.Accounts.{KeepsSound}
 use Rattle.room_laws.specs.Invariant.{conn_in}
 use Rattle.room_laws.specs.Laws.{ReadsBack}
-use Rattle.room_laws.specs.Validity.{AreSpelled, ClientFramesAreSound, IsSoundConn, IsSoundWorld, ItemsOfValid, ReadableRun, ValidRun}
+use Rattle.room_laws.specs.Validity.{AreSpelled, IsSoundConn, IsSoundWorld, ItemsOfValid, ReadableRun, ValidRun}
 use Rattle.room_laws.proofs.Maps.{get_none}
 use Rattle.room_laws.proofs.SoundLines.{Stands, step_stands, state_after-append, valid-append}
 
@@ -45,14 +45,14 @@ after_step n s r out g h = record {
   state = h.state ∙ ap (λ z. state_after z out.entries) g.state ∙ sym (state_after-append s r.log out.entries);
 }
 
-module _ (keep : KeepsSound) (items : ItemsOfValid) (reads : ClientFramesAreSound) where
+module _ (keep : KeepsSound) (items : ItemsOfValid) where
   lines_good : (n : ℕ) (s : State) (ls : List (ℕ × lines.Line)) (r : Run) → AreSpelled ls → IsKey (n + length ls) → Good n s r → Good (n + length ls) s (run r ls)
   lines_good n s [] r h k g = subst (λ m. Good m s r) (omega arith) g
   lines_good n s (l ∷ ls) r h k g =
       let below : r.world.opened < n + 1 = omega (arith, g.world.opened) in
       let key : IsKey (n + 1) = omega (arith, k) in
       let more : IsKey (n + 1 + length ls) = omega (arith, k) in
-      let next : Good (n + 1) s (line r l.0 l.1) = after_step n s r (World.step r.world l.0 l.1) g (step_stands keep items reads (n + 1) r.world l.0 l.1 (wider n r.world g.world) h.0 below key) in
+      let next : Good (n + 1) s (line r l.0 l.1) = after_step n s r (World.step r.world l.0 l.1) g (step_stands keep items (n + 1) r.world l.0 l.1 (wider n r.world g.world) h.0 below key) in
       subst (λ m. Good m s (run (line r l.0 l.1) ls)) (omega arith) (lines_good (n + 1) s ls (line r l.0 l.1) h.1 more next)
 
   room_utf8 : IsUtf8 World.room

@@ -18,14 +18,14 @@ use Rattle.room_model.specs.Comes.{Took, comes}
 use Rattle.room_model.specs.Sound.{IsSound, IsSoundEdit, AreItems, IsValidTree}
 
 -- a message of a server: its numbers are in range, and its values are as deep as a text can have them
-abbrev pub IsSoundServerMsg : ServerMsg → Type 0
-IsSoundServerMsg (server.Presence a target patch) = (a ≤ most_actor) × AreSoundMembers patch
-IsSoundServerMsg (server.Joined a) = a ≤ most_actor
-IsSoundServerMsg (server.Left a) = a ≤ most_actor
-IsSoundServerMsg (server.Broadcast a e) = (a ≤ most_actor) × IsJson (json_of e)
-IsSoundServerMsg (server.RoomState a key users) = (1 ≤ a) × (a ≤ most_actor) × IsKey key
-IsSoundServerMsg (server.State seq last items more) = (seq ≤ most) × (last ≤ most) × AreItems items
-IsSoundServerMsg (server.Update seq os) = (seq ≤ most) × AreSoundOps os × AreShallowOps os
+abbrev pub IsValidServerMsg : ServerMsg → Type 0
+IsValidServerMsg (server.Presence a target patch) = (a ≤ most_actor) × AreSoundMembers patch
+IsValidServerMsg (server.Joined a) = a ≤ most_actor
+IsValidServerMsg (server.Left a) = a ≤ most_actor
+IsValidServerMsg (server.Broadcast a e) = (a ≤ most_actor) × IsJson (json_of e)
+IsValidServerMsg (server.RoomState a key users) = (1 ≤ a) × (a ≤ most_actor) × IsKey key
+IsValidServerMsg (server.State seq last items more) = (seq ≤ most) × (last ≤ most) × AreItems items
+IsValidServerMsg (server.Update seq os) = (seq ≤ most) × AreSoundOps os × AreShallowOps os
 
 -- what items spell is valid
 abbrev pub TreesAreValid : Type 0
@@ -51,4 +51,4 @@ pub record KeepsSound : Type 0 where
   pub clears : (x : Account) → IsSound x → IsSound (clears x)
   pub flushed : (x : Account) → IsSound x → IsSound (flushed x)
   pub resent : (x : Account) → IsSound x → IsSound (resent x)
-  pub comes : (x : Account) (m : ServerMsg) (out : Took) → IsSound x → IsSoundServerMsg m → comes x m ≡ Ok out → IsSound out.account
+  pub comes : (x : Account) (m : ServerMsg) (out : Took) → IsSound x → IsValidServerMsg m → comes x m ≡ Ok out → IsSound out.account

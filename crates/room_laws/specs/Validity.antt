@@ -19,7 +19,7 @@ use Rattle.room_model.specs.Server.{Down, Pong, Message, Closed, Up, Limits, Lin
 use Rattle.room_model.specs.World.{Conn, Host, Running, Stopped, World}
 use Rattle.room_model.specs.Run.{run, opened, account}
 use Rattle.room_model.specs.Sound.{AreItems, IsLine, IsSound, IsValidTree}
-use Rattle.room_laws.specs.Accounts.{IsSoundServerMsg}
+use Rattle.room_laws.specs.Accounts.{IsValidServerMsg}
 use Rattle.room_laws.specs.Invariant.{conn}
 use Rattle.room_laws.specs.Laws.{IsReadable}
 
@@ -40,21 +40,21 @@ abbrev pub IsSoundText : Option (List ℕ) → Type 0
 IsSoundText None = ⊤
 IsSoundText (Some t) = IsUtf8 t
 
-abbrev pub IsSoundClientMsg : ClientMsg → Type 0
-IsSoundClientMsg (client.Hello h) = IsUtf8 h.room × IsSoundText h.name × IsSoundText h.«pass»
-IsSoundClientMsg (client.Presence target patch) = AreSoundMembers patch
-IsSoundClientMsg (client.Broadcast e) = IsJson (json_of e)
-IsSoundClientMsg client.Fetch = ⊤
-IsSoundClientMsg (client.Update os) = AreSoundOps os × AreShallowOps os
+abbrev pub IsValidClientMsg : ClientMsg → Type 0
+IsValidClientMsg (client.Hello h) = IsUtf8 h.room × IsSoundText h.name × IsSoundText h.«pass»
+IsValidClientMsg (client.Presence target patch) = AreSoundMembers patch
+IsValidClientMsg (client.Broadcast e) = IsJson (json_of e)
+IsValidClientMsg client.Fetch = ⊤
+IsValidClientMsg (client.Update os) = AreSoundOps os × AreShallowOps os
 
-abbrev pub AreSoundClientMsgs : List ClientMsg → Type 0
-AreSoundClientMsgs [] = ⊤
-AreSoundClientMsgs (m ∷ ms) = IsSoundClientMsg m × AreSoundClientMsgs ms
+abbrev pub AreValidClientMsgs : List ClientMsg → Type 0
+AreValidClientMsgs [] = ⊤
+AreValidClientMsgs (m ∷ ms) = IsValidClientMsg m × AreValidClientMsgs ms
 
 abbrev pub IsSoundUp : Up → Type 0
 IsSoundUp (Err reason) = ⊤
 IsSoundUp (Ok Ping) = ⊤
-IsSoundUp (Ok (Msgs ms)) = AreSoundClientMsgs ms
+IsSoundUp (Ok (Msgs ms)) = AreValidClientMsgs ms
 
 abbrev pub AreSoundUps : List Up → Type 0
 AreSoundUps [] = ⊤
@@ -64,7 +64,7 @@ AreSoundUps (u ∷ us) = IsSoundUp u × AreSoundUps us
 
 abbrev pub IsSoundDown : Down → Type 0
 IsSoundDown Pong = ⊤
-IsSoundDown (Message m) = IsSoundServerMsg m
+IsSoundDown (Message m) = IsValidServerMsg m
 IsSoundDown (Closed code text) = ⊤
 
 abbrev pub AreSoundDowns : List Down → Type 0
@@ -107,10 +107,7 @@ pub record IsSoundWorld (most_opened : ℕ) (w : World) : Type 0 where
   pub conns : (k : ℕ) → IsSoundConn (conn w k)
   pub opened : w.opened ≤ most_opened
 
--- what is read of a text is sound, and the items of a valid tree are items
-abbrev pub ClientFramesAreSound : Type 0
-ClientFramesAreSound = (t : List ℕ) (f : ClientFrame) → client_frame_in t ≡ Ok f → IsSoundUp (Ok f)
-
+-- the items of a valid tree are items
 abbrev pub ItemsOfValid : Type 0
 ItemsOfValid = (t : Nodes) → IsValidTree t → AreItems (items_of t)
 

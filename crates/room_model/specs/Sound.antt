@@ -1,5 +1,5 @@
 -- What is true of every account between two calls, whatever was done with it; and what edits and lines can be spelled.
-use Rattle.std.specs.Prelude.{◌≡◌, ◌≢◌, ◌≤◌, ◌<◌, ◌+◌, ℕ, true, List, [], ◌∷◌, length, Option, Some, None, IsUtf8, ⊤}
+use Rattle.std.specs.Prelude.{◌≡◌, ◌≢◌, ◌≤◌, ◌<◌, ◌+◌, ℕ, true, List, [], ◌∷◌, length, Option, Some, None, Ok, Err, IsUtf8, ⊤}
 use Rattle.std.specs.Ordering.{nat_cmp}
 use Rattle.std.specs.Cmp.Lexicographic.{slice_cmp}
 use Rattle.std.specs.List.{AllByRecursion}
@@ -17,6 +17,8 @@ use Rattle.room_nodes.specs.Shallow.{IsShallowTree, AreShallow, is_shallow}
 use Rattle.room_nodes.specs.Shape.{Nodes, IsFormed}
 use Rattle.room_nodes.specs.Sound.{IsSoundTree, IsSoundBody, AreSoundBodies}
 use Rattle.room_msg.specs.declared.messages.Resume.{Resume}
+use Rattle.room_msg.specs.Frame.{client_frame_in}
+use Rattle.room_msg.specs.Sound.{IsSoundClientFrame, IsShallowClientFrame}
 use Rattle.room_log.specs.Follows.{IsKey, most, most_actor}
 use Rattle.room_model.specs.Init.{Init, Plain, AnObject, AMap, AList, Parts, no_parts, part, Inits, no_inits, init}
 use Rattle.room_model.specs.Edits as edits
@@ -26,6 +28,7 @@ use Rattle.room_model.specs.Presence.{Others}
 use Rattle.room_model.specs.Account.{Account, Batch, OpenBatch, Stage, Synced, issued, ends, bodies_in, frame_of_event, size_of, most_bytes}
 use Rattle.room_model.specs.Calls.{entry_bodies, presence_size}
 use Rattle.room_model.specs.Comes.{parts_items}
+use Rattle.room_model.specs.Server.{Up}
 use Rattle.room_model.specs.Lines as lines
 use Rattle.room_model.specs.Lines.{Line, Spot}
 
@@ -178,6 +181,11 @@ IsSoundEdit (edits.Move x f t) = IsNodeInRange x
 IsSoundEdit (edits.Take x n) = IsNodeInRange x
 IsSoundEdit (edits.Clear x) = IsNodeInRange x
 
+-- what is read of a frame is sound and no deeper than a frame can be: so says every reader of what it reads
+abbrev pub IsReadSound : Up → Type 0
+IsReadSound (Err reason) = ⊤
+IsReadSound (Ok f) = IsSoundClientFrame f × IsShallowClientFrame f
+
 -- lines that a schedule can spell
 
 abbrev pub IsClient : ℕ → Type 0
@@ -212,7 +220,7 @@ IsLine (lines.Fuse calls how) = 1 ≤ calls
 IsLine lines.Compact = ⊤
 IsLine (lines.Limit updates sessions) = (updates ≤ most) × (sessions ≤ most_actor)
 IsLine lines.Link = ⊤
-IsLine (lines.Raw k text) = ⊤
+IsLine (lines.Raw k text) = IsReadSound (client_frame_in text)
 IsLine (lines.Show spot) = IsSpot spot
 IsLine (lines.Brief spot) = IsSpot spot
 IsLine (lines.Others c) = IsClient c
