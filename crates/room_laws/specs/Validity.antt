@@ -120,3 +120,7 @@ ValidRun = (s : State) (ls : List (ℕ × Line)) → IsValidState s → AreLines
 
 abbrev pub ReadableRun : Type 0
 ReadableRun = (s : State) (ls : List (ℕ × Line)) → IsValidState s → AreLines ls → IsReadable s ls
+
+-- and each client's account is sound
+abbrev pub SoundAccounts : Type 0
+SoundAccounts = (s : State) (ls : List (ℕ × Line)) (c : ℕ) → IsValidState s → AreLines ls → IsSound (account (run (opened s) ls).world c)
