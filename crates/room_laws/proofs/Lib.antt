@@ -70,6 +70,7 @@ mod Takes
 mod Takings
 mod Talks
 mod Undo
+mod UndoSound
 mod Undone
 mod ValidRuns
 mod Validity

@@ -86,7 +86,7 @@ ended w n c p b (Some o) q e i = issued_bodies p.account o.bodies b (one_issued 
     some_is : (x y : OpenBatch) → Some x ≡ Some y → x ≡ y
     some_is x y j = cc
 
-ends_at : (w : World) (n c : ℕ) (b : Batch) (q : OpenBatch) (o : Option Seat) → get w.clients c ≡ o → (account w c).batch ≡ Some q → (World.of_client w n c (lines.End c)).issues ≡ (c, b) ∷ [] → b.bodies ≡ q.bodies
+pub ends_at : (w : World) (n c : ℕ) (b : Batch) (q : OpenBatch) (o : Option Seat) → get w.clients c ≡ o → (account w c).batch ≡ Some q → (World.of_client w n c (lines.End c)).issues ≡ (c, b) ∷ [] → b.bodies ≡ q.bodies
 ends_at w n c b q None e f i = absurd (none_some q (ap (λ (x : Account). x.batch) (sym (account_is w c None e)) ∙ f))
 ends_at w n c b q (Some p) e f i = ended w n c p b p.account.batch q (ap (λ (x : Account). x.batch) (sym (account_is w c (Some p) e)) ∙ f)
     (ap (λ (z : World.Stepped). z.issues) (sym (of_client_is w n c (lines.End c) p e)) ∙ i)

@@ -15,7 +15,7 @@ use Rattle.room_model.specs.Comes
 use Rattle.room_model.specs.Server
 use Rattle.room_model.specs.Server.{Down, Pong, Message, Closed, Up, Link, Served}
 use Rattle.room_model.specs.Lines as lines
-use Rattle.room_model.specs.Sound.{IsSound, IsSoundEdit, IsLine}
+use Rattle.room_model.specs.Sound.{IsSound, IsSoundEdit, IsLine, IsReadSound}
 use Rattle.room_model.specs.World
 use Rattle.room_model.specs.World.{World, Conn, Seat, Stepped, Host, Running, Stopped, state_in, entries_in}
 use Rattle.room_model.specs.Run.{seat_in, account}

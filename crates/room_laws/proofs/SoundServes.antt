@@ -16,6 +16,7 @@ use Rattle.room_items.specs.Items.{items_of}
 use Rattle.room_steps.proofs.Settled.{settles_once}
 use Rattle.room_steps.proofs.Shallow.{keeps_shallow}
 use Rattle.room_steps.proofs.Sound.{keeps_sound}
+use Rattle.room_msg.specs.Sound.{IsTextIfThere}
 use Rattle.room_msg.specs.declared.messages.Resume.{Resume}
 use Rattle.room_msg.specs.declared.messages.Hello.{Hello}
 use Rattle.room_msg.specs.declared.messages.ClientMsg.{ClientMsg}
@@ -36,7 +37,7 @@ use Rattle.room_model.specs.Server
 use Rattle.room_model.specs.Server.{Down, Pong, Message, Closed, Up, Link, Served}
 use Rattle.room_model.specs.Sound.{AreItems}
 use Rattle.room_model.specs.World.{entries_in}
-use Rattle.room_laws.specs.Validity.{AreValidClientMsgs, IsActorOf, IsValidClientMsg, IsSoundDown, IsSoundLink, IsSoundServer, IsSoundText, IsSoundUp, ItemsOfValid}
+use Rattle.room_laws.specs.Validity.{AreValidClientMsgs, IsActorOf, IsValidClientMsg, IsSoundDown, IsSoundLink, IsSoundServer, IsSoundUp, ItemsOfValid}
 use Rattle.room_laws.proofs.SoundMaps.{Each, each_put, each_out, each_without}
 use Rattle.room_laws.proofs.SoundSends.{ops_fit}
 
@@ -239,11 +240,11 @@ module _ (v : Server.Server) (h : IsSoundServer v) where
 
   -- a hello
 
-  name_utf8 : (o : Option (List ℕ)) → IsSoundText o → IsUtf8 (Server.name_of o)
+  name_utf8 : (o : Option (List ℕ)) → IsTextIfThere o → IsUtf8 (Server.name_of o)
   name_utf8 None i = search rules
   name_utf8 (Some name) i = i
 
-  joins : (k : ℕ) (l : Link) (hello : Hello) (d : Option Decision) → IsLink l → IsSoundText hello.name → length v.state.sessions < most_actor → Goes v (Server.join v k l hello d)
+  joins : (k : ℕ) (l : Link) (hello : Hello) (d : Option Decision) → IsLink l → IsTextIfThere hello.name → length v.state.sessions < most_actor → Goes v (Server.join v k l hello d)
   joins k l hello d i name room =
       let a = suc (length v.state.sessions) in
       let entry = Join a l.key (Server.name_of hello.name) in
@@ -290,11 +291,11 @@ module _ (v : Server.Server) (h : IsSoundServer v) where
     Greeted None = length v.state.sessions < most_actor
     Greeted (Some r) = (x : Session) × (session_of v.state.sessions r.actor ≡ Some x) × (x.key ≡ r.key)
 
-    admitted_goes : (hello : Hello) (o : Option Resume) (d : Option Decision) → IsSoundText hello.name → Greeted o → Goes v (Server.admitted v k l hello o d)
+    admitted_goes : (hello : Hello) (o : Option Resume) (d : Option Decision) → IsTextIfThere hello.name → Greeted o → Goes v (Server.admitted v k l hello o d)
     admitted_goes hello None d name g = joins k l hello d i name g
     admitted_goes hello (Some r) d name g = calm_goes v _ (resumes k l r d g.0 i g.1 g.2)
 
-    admit_goes : (hello : Hello) (d : Option Decision) → IsSoundText hello.name → Greeted hello.resume → Goes v (Server.admit v k l hello d)
+    admit_goes : (hello : Hello) (d : Option Decision) → IsTextIfThere hello.name → Greeted hello.resume → Goes v (Server.admit v k l hello d)
     admit_goes hello d name g = or_shut (may_do d (client.Hello hello ∷ [])) 4403 (refusal_text d) (Server.admitted v k l hello hello.resume d) (λ e. admitted_goes hello hello.resume d name g)
 
     key_is : (key : ℕ) (x : Session) → ((x.key == key) && not (key == 0)) ≡ true → x.key ≡ key
@@ -304,7 +305,7 @@ module _ (v : Server.Server) (h : IsSoundServer v) where
         left true b e = refl
         left false b e = e
 
-    key_goes : (hello : Hello) (r : Resume) (o : Option Session) → IsSoundText hello.name → hello.resume ≡ Some r → session_of v.state.sessions r.actor ≡ o
+    key_goes : (hello : Hello) (r : Resume) (o : Option Session) → IsTextIfThere hello.name → hello.resume ≡ Some r → session_of v.state.sessions r.actor ≡ o
         → Goes v (cond (Server.has_key r.key o) (Server.admit v k l hello (Server.decision_of v hello v.access)) (Server.shut v k l 4401 (codes "bad resume")))
     key_goes hello r None name e known = calm_goes v _ (shuts k l i 4401 (codes "bad resume"))
     key_goes hello r (Some x) name e known = or_shut ((x.key == r.key) && not (r.key == 0)) 4401 (codes "bad resume") (Server.admit v k l hello (Server.decision_of v hello v.access))
@@ -313,14 +314,14 @@ module _ (v : Server.Server) (h : IsSoundServer v) where
     room_left : nat_le v.limits.sessions (length v.state.sessions) ≡ false → length v.state.sessions < most_actor
     room_left e = grind (arith, nat_tests, e, h.limits.sessions)
 
-    greet_goes : (hello : Hello) (o : Option Resume) → IsSoundText hello.name → hello.resume ≡ o → Goes v (Server.greet v k l hello o)
+    greet_goes : (hello : Hello) (o : Option Resume) → IsTextIfThere hello.name → hello.resume ≡ o → Goes v (Server.greet v k l hello o)
     greet_goes hello None name e = by_shut (nat_le v.limits.sessions (length v.state.sessions)) 4406 (codes "sessions full " ++ decimal (length v.state.sessions)) (Server.admit v k l hello (Server.decision_of v hello v.access))
         (λ full. admit_goes hello (Server.decision_of v hello v.access) name (subst Greeted (sym e) (room_left full)))
     greet_goes hello (Some r) name e = key_goes hello r (session_of v.state.sessions r.actor) name e refl
 
     abbrev IsSoundHello : Option Hello → Type 0
     IsSoundHello None = ⊤
-    IsSoundHello (Some hello) = IsSoundText hello.name
+    IsSoundHello (Some hello) = IsTextIfThere hello.name
 
     only_sound : (ms : List ClientMsg) → AreValidClientMsgs ms → IsSoundHello (Server.only_hello ms)
     only_sound [] g = tt

@@ -20,7 +20,7 @@ use Rattle.room_model.specs.Run.{Run, seat_in, line, run, opened}
 use Rattle.room_laws.specs.Accounts.{KeepsSound}
 use Rattle.room_laws.specs.Invariant.{conn_in}
 use Rattle.room_laws.specs.Laws.{ReadsBack}
-use Rattle.room_laws.specs.Validity.{AreSpelled, IsSoundConn, IsSoundWorld, ItemsOfValid, ReadableRun, ValidRun}
+use Rattle.room_laws.specs.Validity.{AreLines, AreSpelled, IsSoundConn, IsSoundWorld, ItemsOfValid, ReadableRun, SoundAccounts, ValidRun}
 use Rattle.room_laws.proofs.Maps.{get_none}
 use Rattle.room_laws.proofs.SoundLines.{Stands, step_stands, state_after-append, valid-append}
 
@@ -74,8 +74,14 @@ module _ (keep : KeepsSound) (items : ItemsOfValid) where
     state = refl;
   }
 
+  good : (s : State) (ls : List (ℕ × lines.Line)) → IsValidState s → AreLines ls → Good (0 + length ls) s (run (opened s) ls)
+  good s ls h l = lines_good 0 s ls (opened s) l.spelled (omega (arith, l.fewer)) (begins s h)
+
   pub valid_run : ValidRun
-  valid_run s ls h l = (lines_good 0 s ls (opened s) l.spelled (omega (arith, l.fewer)) (begins s h)).log
+  valid_run s ls h l = (good s ls h l).log
+
+  pub sound_accounts : SoundAccounts
+  sound_accounts s ls c h l = (good s ls h l).world.clients c
 
 -- each front of a valid log leads to a valid state, whose tree is read again
 

@@ -1,6 +1,7 @@
 -- The laws of every run, from each valid state and over all lines that a schedule can spell.
 use Rattle.std.specs.Prelude.{◌≡◌, ℕ, true, List, [], ◌∷◌, ◌++◌, Some, IsOk}
-use Rattle.room_nodes.specs.Shape.{Nodes}
+use Rattle.room_nodes.specs.Ordered.{IsOrderedTree, AreOrderedBodies}
+use Rattle.room_nodes.specs.Shape.{Nodes, IsFormed}
 use Rattle.room_nodes.specs.Steps.{fold}
 use Rattle.room_log.specs.Log.{State, Update, tree_after}
 use Rattle.room_log.specs.Follows.{IsValidState}
@@ -16,7 +17,7 @@ use Rattle.room_model.specs.Run.{run, opened, seat, account, IsUndisturbed}
 use Rattle.room_laws.specs.Invariant.{conn}
 use Rattle.room_laws.specs.Laws.{ShowsLog, Kept, spares_all}
 use Rattle.room_laws.specs.Undo.{Course, Goes, Lies, whole}
-use Rattle.room_laws.specs.Undoing.{IsSound, TakesBack, bodies_after}
+use Rattle.room_laws.specs.Undoing.{TakesBack, bodies_after}
 use Rattle.room_laws.specs.Validity.{AreLines}
 
 abbrev pub AlwaysShows : Type 0
@@ -36,9 +37,15 @@ AlwaysServed = (s : State) (ls : List (ℕ × Line)) (c k : ℕ) (v : Server) (u
     → (run (opened s) ls).world.host ≡ Running v → (conn (run (opened s) ls).world k).owner ≡ Some c → (conn (run (opened s) ls).world k).up ≡ u ∷ us
     → spares_all (serve v k u).outs ≡ true
 
+-- what undoing asks of the tree that was shown and of the batch that was made on it: fields stand in byte order
+pub record IsMade (shown : Nodes) (made : Batch) : Type 0 where
+  pub formed : IsFormed shown
+  pub ordered : IsOrderedTree shown
+  pub bodies : AreOrderedBodies made.bodies
+
 abbrev pub AlwaysUndone : Type 0
 AlwaysUndone = (s : State) (ls : List (ℕ × Line)) (c : ℕ) (shown : Nodes) (made back : Batch) (us vs ws : List Update) (b u : Update) → IsValidState s → AreLines ls
-    → IsUndisturbed (run (opened s) ls) c → TakesBack s (run (opened s) ls) c shown made back us vs ws b u → IsSound s shown made us vs
+    → IsUndisturbed (run (opened s) ls) c → TakesBack s (run (opened s) ls) c shown made back us vs ws b u → IsMade shown made
     → tree_after s.tree (us ++ b ∷ (vs ++ u ∷ [])) ≡ fold (tree_after s.tree us) (bodies_after vs)
 
 -- the lines of a course: a batch of the client, and its undoing
@@ -47,5 +54,5 @@ lines_of q c = q.before ++ (q.first, lines.Begin c) ∷ (q.within ++ (q.last, li
 
 abbrev pub AlwaysUndo : Type 0
 AlwaysUndo = (s : State) (q : Course) (c : ℕ) (t : Nodes) (made back : Batch) (us vs ws : List Update) (b u : Update) → IsValidState s → AreLines (lines_of q c)
-    → IsUndisturbed (whole s q c) c → Goes s q c t made back → Lies s (whole s q c) c t made back us vs ws b u → IsSound s t made us vs
+    → IsUndisturbed (whole s q c) c → Goes s q c t made back → Lies s (whole s q c) c t made back us vs ws b u
     → tree_after s.tree (us ++ b ∷ (vs ++ u ∷ [])) ≡ fold (tree_after s.tree us) (bodies_after vs)

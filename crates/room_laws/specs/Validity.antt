@@ -8,6 +8,7 @@ use Rattle.room_nodes.specs.Shape.{Nodes}
 use Rattle.room_nodes.specs.Sound.{AreSoundOps}
 use Rattle.room_items.specs.Items.{items_of}
 use Rattle.room_msg.specs.Frame.{client_frame_in}
+use Rattle.room_msg.specs.Sound.{IsTextIfThere}
 use Rattle.room_msg.specs.declared.messages.ClientMsg.{ClientMsg}
 use Rattle.room_msg.specs.declared.messages.ClientMsg.TheVariants as client
 use Rattle.room_msg.specs.declared.messages.ClientFrame.{ClientFrame}
@@ -36,12 +37,8 @@ pub record AreLines (ls : List (ℕ × Line)) : Type 0 where
 
 -- what goes up
 
-abbrev pub IsSoundText : Option (List ℕ) → Type 0
-IsSoundText None = ⊤
-IsSoundText (Some t) = IsUtf8 t
-
 abbrev pub IsValidClientMsg : ClientMsg → Type 0
-IsValidClientMsg (client.Hello h) = IsUtf8 h.room × IsSoundText h.name × IsSoundText h.«pass»
+IsValidClientMsg (client.Hello h) = IsUtf8 h.room × IsTextIfThere h.name × IsTextIfThere h.«pass»
 IsValidClientMsg (client.Presence target patch) = AreSoundMembers patch
 IsValidClientMsg (client.Broadcast e) = IsJson (json_of e)
 IsValidClientMsg client.Fetch = ⊤
@@ -117,3 +114,7 @@ ValidRun = (s : State) (ls : List (ℕ × Line)) → IsValidState s → AreLines
 
 abbrev pub ReadableRun : Type 0
 ReadableRun = (s : State) (ls : List (ℕ × Line)) → IsValidState s → AreLines ls → IsReadable s ls
+
+-- and each client's account is sound
+abbrev pub SoundAccounts : Type 0
+SoundAccounts = (s : State) (ls : List (ℕ × Line)) (c : ℕ) → IsValidState s → AreLines ls → IsSound (account (run (opened s) ls).world c)
