@@ -1,0 +1,40 @@
+-- The laws of every run, from the parts that they were shown from.
+use Rattle.room_items.proofs.Spells.{trees_again}
+use Rattle.room_steps.proofs.Undoing.{undo_restores}
+use Rattle.room_laws.specs.Accounts.{KeepsSound}
+use Rattle.room_laws.specs.Always.{AlwaysOnce, AlwaysServed, AlwaysShows, AlwaysTaken, AlwaysUndo, AlwaysUndone}
+use Rattle.room_laws.specs.Validity.{ReadableRun, SoundAccounts, ValidRun}
+use Rattle.room_laws.proofs.Always.{always_once, always_served, always_shows, always_taken, always_undo, always_undone}
+use Rattle.room_laws.proofs.SoundAccounts.{keeps_sound}
+use Rattle.room_laws.proofs.StateItems.{items_of_valid, trees_valid}
+use Rattle.room_laws.proofs.ValidRuns as valid
+
+pub every_account : KeepsSound
+every_account = keeps_sound trees_valid EMPTY_FITS
+
+pub every_log : ValidRun
+every_log = valid.valid_run every_account items_of_valid
+
+pub every_sound : SoundAccounts
+every_sound = valid.sound_accounts every_account items_of_valid
+
+readable : ReadableRun
+readable = valid.readable_run trees_again every_log
+
+pub every_shows : AlwaysShows
+every_shows = always_shows readable
+
+pub every_once : AlwaysOnce
+every_once = always_once readable
+
+pub every_taken : AlwaysTaken
+every_taken = always_taken readable
+
+pub every_served : AlwaysServed
+every_served = always_served readable
+
+pub every_undone : AlwaysUndone
+every_undone = always_undone readable every_log undo_restores
+
+pub every_undo : AlwaysUndo
+every_undo = always_undo readable every_log undo_restores every_sound
