@@ -6,7 +6,6 @@ mod Batches
 mod Calls
 mod Calm
 mod ClientLines
-mod ClockRuns
 mod ClocksKept
 mod Comings
 mod Commits
@@ -15,6 +14,7 @@ mod Dials
 mod Downs
 mod EditMakes
 mod Edits
+mod Facts
 mod Follows
 mod Frame
 mod Frames
