@@ -18,7 +18,7 @@ either : (a b : Bool) → (a || b) ≡ true → (a ≡ true) ⊎ (b ≡ true)
 either true b e = inl refl
 either false b e = inr e
 
-from_le : (a b : ℕ) → nat_le a b ≡ true → a ≤ b
+pub from_le : (a b : ℕ) → nat_le a b ≡ true → a ≤ b
 from_le a b t = grind (arith, nat_tests, t)
 
 letter_char : (d : ℕ) → 10 ≤ d → digit_char d ≡ 87 + d
@@ -40,7 +40,7 @@ hex c h = elim (either (nat_le 48 c && nat_le c 57) _ h) as (λ _. IsHex c) [
   | inr d ↦ let p = both (nat_le 97 c) (nat_le c 102) d in let low = from_le 97 c p.0 in let high = from_le c 102 p.1 in record { value = letter c low high; no_plus = omega arith }
 ]
 
-all_hex : (t : List ℕ) → are_hex_digits t ≡ true → AllDigits 16 t
+pub all_hex : (t : List ℕ) → are_hex_digits t ≡ true → AllDigits 16 t
 all_hex [] h = tt
 all_hex (c ∷ cs) h = let p = both (is_hex_digit c) (are_hex_digits cs) h in ((hex c p.0).value, all_hex cs p.1)
 

@@ -1,5 +1,9 @@
+pub mod Bounds
 pub mod Framed
 pub mod KeyTexts
 pub mod Places
 pub mod Reread
+pub mod SoundClient
+pub mod SoundServer
+pub mod SoundUsers
 pub mod Swaps

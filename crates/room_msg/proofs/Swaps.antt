@@ -36,7 +36,7 @@ self_equal Less e = cc
 self_equal Equal e = refl
 self_equal Greater e = cc
 
-same : (x y : List ℕ) → x ≡ y → slice_cmp nat_cmp x y ≡ Equal
+pub same : (x y : List ℕ) → x ≡ y → slice_cmp nat_cmp x y ≡ Equal
 same x y e = subst (λ (z : List ℕ). slice_cmp nat_cmp x z ≡ Equal) e (self_equal (slice_cmp nat_cmp x x) (nat_list_cmp_total.antisymm x x))
 
 some_inj : {A : Type 0} {a b : A} → Some a ≡ Some b → a ≡ b
@@ -51,7 +51,7 @@ user_step t v u (Some n) e h = user_in_some (as_members v) h
     user_in_some (Some ms) h = let is : (n, name_in v) ≡ u = some_inj h in ap (λ (w : ℕ × List ℕ). decimal w.0) (sym is) ∙ (number_once 4294967295 n t (omega arith) e).0
 
 -- an entry's name is the text of its actor
-actor_of : (e : Entry) (u : ℕ × List ℕ) → user_in e ≡ Some u → decimal u.0 ≡ e.0
+pub actor_of : (e : Entry) (u : ℕ × List ℕ) → user_in e ≡ Some u → decimal u.0 ≡ e.0
 actor_of e u h = user_step e.0 e.1 u _ refl h
 
 apart : (e d : Entry) (u w : ℕ × List ℕ) → (slice_cmp nat_cmp d.0 e.0 ≡ Equal → ⊥) → user_in e ≡ Some u → user_in d ≡ Some w → u.0 ≢ w.0
@@ -86,7 +86,7 @@ abbrev insert_all : List (ℕ × List ℕ) → List (ℕ × List ℕ) → List (
 insert_all [] found = found
 insert_all (u ∷ us) found = insert_user u (insert_all us found)
 
-abbrev AreFresh : List (ℕ × List ℕ) → List Entry → Type 0
+abbrev pub AreFresh : List (ℕ × List ℕ) → List Entry → Type 0
 AreFresh us es = AllByRecursion (λ (u : ℕ × List ℕ). IsFresh (decimal u.0) es) us
 
 abbrev AreDistinct : List (ℕ × List ℕ) → Type 0

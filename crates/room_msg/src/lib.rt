@@ -19,7 +19,10 @@ mod tests;
 mod users;
 
 pub use frames::{read_client, read_server};
-pub use laws::{client_frames_read_back, server_frames_read_back};
+pub use laws::{
+    client_frames_are_sound, client_frames_read_back, server_frames_are_sound,
+    server_frames_read_back,
+};
 pub use messages::{
     ClientFrame, ClientMsg, ClientMsgs, Hello, Resume, ServerFrame, ServerMsg, ServerMsgs,
 };

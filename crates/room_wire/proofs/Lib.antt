@@ -1,1 +1,3 @@
+pub mod Fields
 pub mod Law
+pub mod Sound

@@ -11,6 +11,6 @@ mod tests;
 mod writing;
 
 pub use fault::{Field, WireFault};
-pub use laws::ops_read_back;
+pub use laws::{ops_are_sound, ops_read_back};
 pub use reading::read_op;
 pub use writing::write_op;
