@@ -1,8 +1,12 @@
+pub mod Found
 pub mod Levels
 pub mod MayPut
+pub mod Members
 pub mod Merging
 pub mod NodesAgain
 pub mod Rooted
 pub mod Rowing
 pub mod Shown
+pub mod SoundItems
+pub mod SoundTrees
 pub mod Spells

@@ -1,6 +1,5 @@
 -- Rows of a tree, each behind its parent, put one after another.
-use Rattle.std.proofs.Common.{◌≡◌, ◌≢◌, ◌⊎◌, inl, inr, ◌+◌, ℕ, Bool, true, false, ◌&&◌, not, if◌then◌else◌, List, [], ◌∷◌, ◌++◌, map, Option, Some, None, is_some, option_and_then, refl, sym, ap, ◌∙◌}
-use Rattle.std.specs.Prelude.{⊤}
+use Rattle.std.proofs.Common.{◌≡◌, ◌⊎◌, inl, inr, ◌+◌, ℕ, Bool, true, false, ◌&&◌, not, if◌then◌else◌, List, [], ◌∷◌, map, Option, Some, None, is_some, option_and_then, refl, sym, ap, ◌∙◌}
 use Rattle.std.specs.FinMap.{get, insert}
 use Rattle.room_ids.specs.declared.ids.NodeId.{NodeId}
 use Rattle.room_ids.specs.declared.ids.NodeId.TheVariants.{Root}
@@ -51,7 +50,7 @@ module _ (t : Nodes) where
   abbrev pub Part : Nodes → List NodeId → Type 0
   Part u done = (y : NodeId) → (Has y done → get u y ≡ get t y) × ((Has y done → ⊥) → get u y ≡ None)
 
-  module _ (f : IsFormed t) (u : Nodes) (done : List NodeId) (x : NodeId) (part : Part u done) (s : Step done x) where
+  module _ (f : IsFormed t) (u : Nodes) (done : List NodeId) (x : NodeId) (part : Part u done) (s : Step t done x) where
     abbrev row : Row
     row = record { id = x; parent = s.node.parent; key = s.node.key; kind = s.node.kind }
 
@@ -106,7 +105,7 @@ module _ (t : Nodes) where
       )
     ]
 
-  pub put_all : IsFormed t → (xs done : List NodeId) (u : Nodes) → Part u done → Walk done xs → (v : Nodes) × (put_rows u (map (row_at t) xs) ≡ Some v) × Part v (rev_on xs done)
+  pub put_all : IsFormed t → (xs done : List NodeId) (u : Nodes) → Part u done → Walk t done xs → (v : Nodes) × (put_rows u (map (row_at t) xs) ≡ Some v) × Part v (rev_on xs done)
   put_all f [] done u part w = (u, refl, part)
   put_all f (x ∷ xs) done u part w =
       let r = put_all f xs (x ∷ done) (insert u x w.0.node) (part_step f u done x part w.0) w.1 in (
@@ -115,7 +114,7 @@ module _ (t : Nodes) where
         r.2,
       )
 
-  pub rows_again : ((x : NodeId) (n : Node) → get t x ≡ Some n → IsNodeInRange x) → IsFormed t → (xs done : List NodeId) → Walk done xs → rows_in (map (item_out t) xs) ≡ Some (map (row_at t) xs)
+  pub rows_again : ((x : NodeId) (n : Node) → get t x ≡ Some n → IsNodeInRange x) → IsFormed t → (xs done : List NodeId) → Walk t done xs → rows_in (map (item_out t) xs) ≡ Some (map (row_at t) xs)
   rows_again range f [] done w = refl
   rows_again range f (x ∷ xs) done w =
       let s = w.0 in

@@ -1,12 +1,14 @@
 -- The items of a well-formed tree spell that tree.
 use Rattle.std.proofs.Common.{◌≡◌, inl, inr, ℕ, true, cond, not, List, [], ◌∷◌, map, flat_map, Option, Some, None, refl, sym, ap, ◌∙◌}
 use Rattle.std.specs.FinMap.{get, same_map, get-from_sorted}
+use Rattle.room_json.specs.Value.{Value}
 use Rattle.room_ids.specs.Order.{node_cmp, is_same}
 use Rattle.room_ids.specs.Position.{is_some_text}
 use Rattle.room_ids.specs.declared.ids.NodeId.{NodeId}
 use Rattle.room_ids.specs.declared.ids.NodeId.TheVariants.{Root}
 use Rattle.room_ids.proofs.IdOrder.{node_cmp-total, node_cmp-exact}
 use Rattle.room_nodes.specs.Shape.{Nodes, IsFormed, children, is_object}
+use Rattle.room_nodes.specs.Sound.{IsSoundTree}
 use Rattle.room_nodes.specs.declared.nodes.Node.{Node}
 use Rattle.room_nodes.specs.declared.nodes.Kind.{Kind}
 use Rattle.room_nodes.proofs.Fitting.{the_root}
@@ -108,3 +110,9 @@ module _ (t : Nodes) (f : IsFormed t) (range : AreInRange t) where
 
 pub trees_again : TreesReadBack
 trees_again t f range = again t f range
+
+sound_again : (t : Nodes) → IsFormed t → IsSoundTree t → tree_in (items_of t) ≡ Some t
+sound_again t f sound = again t f (λ x n e. (sound x n e).0)
+
+pub written_again : (t : Nodes) (vs : List Value) (xs ids : List NodeId) → IsFormed t → IsSoundTree t → ids ≡ preorder t Root → xs ≡ ids → vs ≡ map (item_out t) xs → tree_in vs ≡ Some t
+written_again t vs xs ids f sound are given made = ap tree_in (made ∙ ap (map (item_out t)) (given ∙ are)) ∙ sound_again t f sound

@@ -15,7 +15,7 @@ mod showing;
 mod tests;
 mod writing;
 
-pub use laws::{items_read_back, trees_read_back};
+pub use laws::{items_are_sound, items_read_back, trees_are_sound, trees_read_back};
 pub use reading::read_items;
 pub use showing::{view, view_of};
 pub use writing::write_items;

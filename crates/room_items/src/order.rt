@@ -46,7 +46,7 @@ fn push_each<T: Tree>(
 }
 
 /// The ids of a tree, each before those below it, children in byte order of their keys.
-#[tactic(auto, unfolding(crate::specs::Preorder::preorder))]
+#[tactic(auto, unfolding(room_nodes::specs::Preorder::preorder))]
 pub(crate) fn order<T: Tree>(alloc: Global, t: &T) -> Result<Seq<NodeId>, NoMemory>
     ensures { IfOk result (λ s. s ≡ preorder (T.nodes t.now) Root) }
 {

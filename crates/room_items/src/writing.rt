@@ -1,6 +1,6 @@
 //! A tree as the items of a state.
-ghost use Rattle.std.specs.Prelude.{◌≡◌, map, IfOk};
-ghost use Rattle.room_items.specs.Items.{item_out, items_of};
+ghost use Rattle.std.specs.Prelude.{◌≡◌, map, IfOk, Some};
+ghost use Rattle.room_items.specs.Items.{item_out, items_of, tree_in};
 
 use crate::order::order;
 use crate::shape::write_item;
@@ -19,10 +19,12 @@ fn items_at<T: Tree>(alloc: Global, t: &T, ids: &[NodeId]) -> Result<Items, NoMe
     Ok(items)
 }
 
-/// The items of a tree, in preorder from the root, children in byte order of their keys.
+/// The items of a tree, in preorder from the root, children in byte order of their keys. They are read again as that tree.
 pub fn write_items<T: Tree>(alloc: Global, t: &T) -> Result<Items, NoMemory>
-    ensures { IfOk result (λ v. v ≡ items_of (T.nodes t.now)) }
+    ensures value { IfOk result (λ v. v ≡ items_of (T.nodes t.now)) }
+    ensures again { IfOk result (λ v. tree_in v ≡ Some (T.nodes t.now)) }
 {
     let ids = order(alloc, t)?;
-    items_at(alloc, t, ids.as_slice())
+    let items = items_at(alloc, t, ids.as_slice())?;
+    Ok(items)
 }

@@ -12,15 +12,12 @@ use Rattle.room_model.specs.Comes.{told_by}
 use Rattle.room_model.specs.Sound.{RunsOn}
 use Rattle.room_laws.specs.Ledger.{Matches, Ledger, upto}
 use Rattle.room_laws.proofs.Batches.{upto_above}
+use Rattle.room_laws.proofs.Ops.{bodies_again}
 use Rattle.room_laws.proofs.Matches.{Matches-append, Matches-cut, left, last_after_is}
 
 pub tree_after-append : (t : Nodes) (us vs : List Update) → tree_after t (us ++ vs) ≡ tree_after (tree_after t us) vs
 tree_after-append t [] vs = refl
 tree_after-append t (u ∷ us) vs = tree_after-append (fold t u.bodies) us vs
-
-pub bodies_again : (a f : ℕ) (bs : List Body) → bodies_of (ops_from a f bs) ≡ bs
-bodies_again a f [] = refl
-bodies_again a f (b ∷ bs) = ap (λ cs. b ∷ cs) (bodies_again a (f + 1) bs)
 
 pub taken_other : (a b limit c f : ℕ) (bs : List Body) → (b ≡ a → ⊥) → told_by a limit c (ops_from b f bs) ≡ Ok c
 taken_other a b limit c f [] h = refl

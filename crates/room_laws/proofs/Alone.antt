@@ -17,7 +17,8 @@ use Rattle.room_model.specs.Account.{Account, Batch, OpenBatch, issued, all_bodi
 use Rattle.room_model.specs.Calls as calls
 use Rattle.room_laws.specs.Back.{in_bag, entries, back_of, open_back, LeadsBack, Leads, Reverses, Undoes, UndoesAlone}
 use Rattle.room_laws.proofs.Settled.{fold-append}
-use Rattle.room_laws.proofs.Open.{under, ok_is, some_is, entry-append, entry_of_bodies, back_is, edit_as, no_bodies}
+use Rattle.room_laws.proofs.Open.{entry-append, entry_of_bodies, back_is, edit_as, no_bodies}
+use Rattle.room_laws.proofs.Facts.{ok_is, some_is, under}
 
 -- the last entries of a list
 

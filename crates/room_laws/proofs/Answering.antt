@@ -16,9 +16,7 @@ use Rattle.room_laws.proofs.OwnLines.{keeps_saying}
 use Rattle.room_laws.proofs.Stops.{keeps_stopping, own_same, keeps_settings}
 use Rattle.room_laws.proofs.Leaving.{keeps_leaving}
 use Rattle.room_laws.proofs.Acts.{pops}
-
-none_some : {A : Type 0} (x : A) → None ≡ Some x → ⊥
-none_some x e = cc
+use Rattle.room_laws.proofs.Facts.{none_some}
 
 no_cons : {A : Type 0} (x : A) (xs : List A) → x ∷ xs ≡ [] → ⊥
 no_cons x xs e = cc

@@ -1,5 +1,6 @@
 -- Batches whose clocks run on.
 use Rattle.std.proofs.Common.{◌≡◌, ℕ, ◌+◌, ◌-◌, ◌<◌, ◌≤◌, ◌⊎◌, inl, inr, true, false, cond, max, nat_lt, List, [], ◌∷◌, ◌++◌, length, drop, refl, sym, ap, ◌∙◌, arith, length-drop, ⊎_elim}
+use Rattle.std.proofs.Math.Nat.{max-le}
 use Rattle.std.proofs.lemmas.Bool.{cases_lt}
 use Rattle.std.proofs.lemmas.Bool.Decides.{nat_tests}
 use Rattle.room_model.specs.Account.{Batch, last_clock, ends, rest_of, beyond}
@@ -99,3 +100,36 @@ beyond_upto c e (b ∷ bs) h l = ⊎_elim cut (λ m. past m (beyond_upto (c + le
         let p : upto (e + length (drop (e + 1 - b.first) b.bodies)) (beyond e bs) ≤ max e (upto c (b ∷ bs)) =
         rw (k, beyond_none (c + length b.bodies) e bs h.more (omega arith)) (omega arith) in
         rw t p
+
+-- what is left beyond a clock runs on from it
+pub runs_beyond : (c e : ℕ) (bs : List Batch) → RunsOn c bs → c ≤ e → RunsOn e (beyond e bs)
+runs_beyond c e [] h l = h
+runs_beyond c e (b ∷ bs) h l = ⊎_elim cut (λ m. past m (runs_beyond (c + length b.bodies) e bs h.more m)) (cases_lt e (c + length b.bodies))
+  where
+    past : c + length b.bodies ≤ e → RunsOn e (beyond e bs) → RunsOn e (beyond e (b ∷ bs))
+    past m k =
+        let t : nat_lt e (last_clock b) ≡ false = grind (arith, nat_tests) in
+        rw t k
+
+    cut : e < c + length b.bodies → RunsOn e (beyond e (b ∷ bs))
+    cut m =
+        let t : nat_lt e (last_clock b) ≡ true = grind (arith, nat_tests) in
+        let k : e + length (drop (e + 1 - b.first) b.bodies) ≡ c + length b.bodies = omega (arith, length-drop (e + 1 - b.first) b.bodies) in
+        let more : RunsOn (e + length (drop (e + 1 - b.first) b.bodies)) (beyond e bs) =
+        rw (k, beyond_none (c + length b.bodies) e bs h.more (omega arith)) h.more in
+        let whole : RunsOn e (rest_of e b ∷ beyond e bs) = record { first = omega arith; some = omega arith; more = more } in
+        rw t whole
+
+pub ends_later : (c : ℕ) (bs : List Batch) → RunsOn c bs → c ≤ ends c bs
+ends_later c bs h = omega (arith, upto_above c bs, ends_upto c bs h)
+
+-- what is left beyond a clock that was issued ends no later than the whole
+pub ends_beyond : (c e : ℕ) (bs : List Batch) → RunsOn c bs → c ≤ e → e ≤ ends c bs → ends e (beyond e bs) ≤ ends c bs
+ends_beyond c e bs h l m =
+    let within : e ≤ upto c bs = omega (arith, m, ends_upto c bs h) in
+    let most : max e (upto c bs) ≤ upto c bs = max-le within (omega arith) in
+    omega (arith, ends_upto e (beyond e bs) (runs_beyond c e bs h l), beyond_upto c e bs h l, most, ends_upto c bs h)
+
+pub ends-append : (c : ℕ) (bs cs : List Batch) → ends c (bs ++ cs) ≡ ends (ends c bs) cs
+ends-append c [] cs = refl
+ends-append c (b ∷ bs) cs = ends-append (last_clock b) bs cs

@@ -20,29 +20,15 @@ use Rattle.room_model.specs.Calls
 use Rattle.room_model.specs.Comes
 use Rattle.room_model.specs.Sound.{RunsOn, ClocksRunOn}
 use Rattle.room_laws.specs.Clocks.{KeepsClocks}
-use Rattle.room_laws.proofs.ClockRuns.{ends_upto, runs-append, beyond-append, runs_beyond}
+use Rattle.room_laws.proofs.Batches.{ends_upto, Runs-append, beyond-append, runs_beyond}
 use Rattle.room_items.specs.Items.{tree_in}
-
--- what a test lets through
-under : {A E : Type 0} (b : Bool) (e : E) (x y : A) → cond b (Err e) (Ok x) ≡ Ok y → x ≡ y
-under true e x y p = cc
-under false e x y p = cc
-
-over : {A E : Type 0} (b : Bool) (e : E) (x y : A) → cond b (Ok x) (Err e) ≡ Ok y → x ≡ y
-over true e x y p = cc
-over false e x y p = cc
-
-ok_is : {A E : Type 0} (x y : A) → ◌≡◌ {A = Result A E} (Ok x) (Ok y) → x ≡ y
-ok_is x y p = cc
-
-none_some : {A : Type 0} (x : A) → None ≡ Some x → ⊥
-none_some x p = cc
+use Rattle.room_laws.proofs.Facts.{some_is, none_some, ok_is, under, over}
 
 -- a batch issued at the end
 one_more : (told : ℕ) (sent fresh : List Batch) (b : Batch) → RunsOn told (sent ++ fresh) → b.first ≡ ends told (sent ++ fresh) + 1 → 0 < length b.bodies → RunsOn told (sent ++ (fresh ++ b ∷ []))
 one_more told sent fresh b h f s =
     subst (λ bs. RunsOn told bs) (append_assoc sent fresh (b ∷ []))
-    (runs-append told (sent ++ fresh) (b ∷ []) h (record { first = f ∙ ap (λ n. n + 1) (ends_upto told (sent ++ fresh) h); some = s; more = record {} }))
+    (Runs-append told (sent ++ fresh) (b ∷ []) h (record { first = f ∙ ap (λ n. n + 1) (ends_upto told (sent ++ fresh) h); some = s; more = record {} }))
 
 no_more : (told : ℕ) (sent fresh : List Batch) → RunsOn told (sent ++ fresh) → RunsOn told (sent ++ (fresh ++ []))
 no_more told sent fresh h = subst (λ bs. RunsOn told (sent ++ bs)) (sym (append-nil fresh)) h
@@ -88,9 +74,6 @@ end_keeps x None out h p = cc
 end_keeps x (Some o) out h p = subst (λ (d : Calls.Done). ClocksRunOn d.account) (ok_is _ _ p) (issues_more x o.bodies h)
 
 -- history
-
-some_is : {A : Type 0} (x y : A) → Some x ≡ Some y → x ≡ y
-some_is x y p = cc
 
 presence_keeps : (way : Calls.Way) (x : Account) (entry : List Change) (size : ℕ) (out : Calls.Done) → ClocksRunOn x → Calls.back_presence way x entry size ≡ Ok (Some out) → ClocksRunOn out.account
 presence_keeps way x entry size out h p =

@@ -31,14 +31,9 @@ use Rattle.room_laws.proofs.Served.{served, ClientOf}
 use Rattle.room_laws.proofs.Sent.{present_news}
 use Rattle.room_laws.proofs.Calm.{ups_after}
 use Rattle.room_laws.proofs.Leaving.{delivered, ups_passed}
+use Rattle.room_laws.proofs.Facts.{some_is, none_some}
 
 -- sessions
-
-some_is : {A : Type 0} (x y : A) → Some x ≡ Some y → x ≡ y
-some_is x y e = cc
-
-none_some : {A : Type 0} (x : A) → None ≡ Some x → ⊥
-none_some x e = cc
 
 set_same : (ss : List Session) (i : ℕ) (x y : Session) → slice_get ss i ≡ Some x → slice_get (slice_set ss i y) i ≡ Some y
 set_same ss i x y p =

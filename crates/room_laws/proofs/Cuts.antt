@@ -14,18 +14,10 @@ use Rattle.room_laws.specs.Invariant
 use Rattle.room_laws.proofs.Maps.{cut}
 use Rattle.room_laws.proofs.Owns.{off, own_off}
 use Rattle.room_laws.proofs.Keep.{Undisturbed, Mine, Still, changed, ups_as}
+use Rattle.room_laws.proofs.Facts.{some_is, none_some, true_false}
 
 pub idle_synced : Idle ≡ Synced → ⊥
 idle_synced e = cc
-
-none_some : {A : Type 0} (x : A) → None ≡ Some x → ⊥
-none_some x e = cc
-
-some_is : {A : Type 0} (x y : A) → Some x ≡ Some y → x ≡ y
-some_is x y e = cc
-
-true_false : true ≡ false → ⊥
-true_false e = cc
 
 -- another session's clocks aside, a queue up goes on standing where what is sent on it counts no more
 pub ups_idle : (now : Type 0) (w : Option Resume) (tried tried' : ℕ) (all : List Batch) (last : ℕ) (l : Option Link) (q : List Up) → (now → ⊥)

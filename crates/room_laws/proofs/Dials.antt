@@ -17,18 +17,10 @@ use Rattle.room_laws.proofs.Owns.{off, own_off}
 use Rattle.room_laws.proofs.Keep.{Undisturbed, Mine, Still, changed}
 use Rattle.room_laws.proofs.Sessions.{begun_since}
 use Rattle.room_laws.proofs.Cuts.{is_present, ups_idle, ups_any}
+use Rattle.room_laws.proofs.Facts.{some_is, none_some, true_false}
 
 dialled_synced : Dialled ≡ Synced → ⊥
 dialled_synced e = cc
-
-none_some : {A : Type 0} (x : A) → None ≡ Some x → ⊥
-none_some x e = cc
-
-some_is : {A : Type 0} (x y : A) → Some x ≡ Some y → x ≡ y
-some_is x y e = cc
-
-true_false : true ≡ false → ⊥
-true_false e = cc
 
 false_true : false ≡ true → ⊥
 false_true e = cc

@@ -30,15 +30,7 @@ use Rattle.room_laws.proofs.Takes.{turned_still}
 use Rattle.room_laws.proofs.Messages.{takes}
 use Rattle.room_laws.proofs.OwnLines.{keeps_saying, cut_off_at}
 use Rattle.room_laws.proofs.Strange.{keeps_strange}
-
-none_some : {A : Type 0} (x : A) → None ≡ Some x → ⊥
-none_some x e = cc
-
-some_is : {A : Type 0} (x y : A) → Some x ≡ Some y → x ≡ y
-some_is x y e = cc
-
-true_false : true ≡ false → ⊥
-true_false e = cc
+use Rattle.room_laws.proofs.Facts.{some_is, none_some, true_false}
 
 no_cons : {A : Type 0} (x : A) (xs : List A) → x ∷ xs ≡ [] → ⊥
 no_cons x xs e = cc

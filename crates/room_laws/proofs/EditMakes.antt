@@ -28,11 +28,12 @@ use Rattle.room_model.specs.Edits as edits
 use Rattle.room_model.specs.Edits.{Edit, EditFault, Clocks, Made, target, has_edit, indices, below, value_depth, made_depth, fields_most, key_in, key_at, id_in, id_at, inserted_key, moved_key, made_positions, too_long, set_bodies, update_bodies, delete_bodies, remove_bodies, move_bodies, clear_bodies, bodies, set_nodes, made_nodes, spent, made, clocked, placed, removed_child, make_of, make_at, make}
 use Rattle.room_model.specs.Init.{Init, Plain, AnObject, AMap, AList, nodes_in, plain_depth, positions_in, creates}
 use Rattle.room_model.specs.Sound.{IsValidTree, AreValidBodies, IsSoundInit, IsSoundEdit}
-use Rattle.room_laws.proofs.Advance.{bodies_again}
+use Rattle.room_laws.proofs.Ops.{bodies_again}
 use Rattle.room_laws.proofs.Patches.{Members}
-use Rattle.room_laws.proofs.Reversals.{EachValid, one_field, both, of_each}
+use Rattle.room_laws.proofs.Reversals.{EachValid, one_field, of_each}
 use Rattle.room_laws.proofs.MadeNodes.{valid_creates, is_low}
 use Rattle.room_laws.proofs.MadePositions.{ArePositions, Kids, pos_utf8, all_short, made_in, got_has, there_at, inserted_pos, moved_pos}
+use Rattle.room_laws.proofs.Facts.{some_is, ok_is, both}
 
 -- what a made edit says
 
@@ -46,12 +47,6 @@ pub record Makes (t : Nodes) (c : Clocks) (e : Edit) (m : Made) : Type 0 where
   pub nodes : spent c.node (made_nodes node.kind e) ≡ None
   pub ops : spent c.op (length (bodies node.kind (children t (target e)) (removed_child t e) c.actor c.node e)) ≡ None
   pub is : m ≡ made c (made_nodes node.kind e) (bodies node.kind (children t (target e)) (removed_child t e) c.actor c.node e)
-
-ok_is : {A E : Type 0} (x y : A) → ◌≡◌ {A = Result A E} (Ok x) (Ok y) → x ≡ y
-ok_is x y p = cc
-
-some_is : {A : Type 0} (x y : A) → Some x ≡ Some y → x ≡ y
-some_is x y p = cc
 
 module _ (t : Nodes) (c : Clocks) (e : Edit) (m : Made) (n : Node) (there : get t (target e) ≡ Some n) where
   abbrev cs : Kids

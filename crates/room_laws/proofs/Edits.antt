@@ -13,19 +13,7 @@ use Rattle.room_model.specs.Account.{Account, OpenBatch, actor, clocks, size_of,
 use Rattle.room_model.specs.Calls as calls
 use Rattle.room_laws.specs.Core.{core}
 use Rattle.room_laws.proofs.Calls.{Called}
-
-under : {A E : Type 0} (b : Bool) (e : E) (x y : A) → cond b (Err e) (Ok x) ≡ Ok y → x ≡ y
-under true e x y p = cc
-under false e x y p = cc
-
-ok_is : {A E : Type 0} (x y : A) → ◌≡◌ {A = Result A E} (Ok x) (Ok y) → x ≡ y
-ok_is x y p = cc
-
-some_is : {A : Type 0} (x y : A) → Some x ≡ Some y → x ≡ y
-some_is x y p = cc
-
-none_some : {A : Type 0} (x : A) → None ≡ Some x → ⊥
-none_some x p = cc
+use Rattle.room_laws.proofs.Facts.{some_is, none_some, ok_is, under}
 
 same_fresh : (x : Account) → record (core x) { fresh = x.fresh ++ [] } ≡ core x
 same_fresh x = rw (append-nil x.fresh) refl

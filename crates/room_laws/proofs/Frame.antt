@@ -19,12 +19,7 @@ use Rattle.room_laws.proofs.Answering.{Kept, stops, passed_over}
 use Rattle.room_laws.proofs.Serves.{hello_kept}
 use Rattle.room_laws.proofs.OwnFrames.{own_frame_kept}
 use Rattle.room_laws.proofs.Strangers.{stranger_kept}
-
-none_some : {A : Type 0} (x : A) → None ≡ Some x → ⊥
-none_some x e = cc
-
-some_is : {A : Type 0} (x y : A) → Some x ≡ Some y → x ≡ y
-some_is x y e = cc
+use Rattle.room_laws.proofs.Facts.{some_is, none_some}
 
 true_false : false ≡ true → ⊥
 true_false e = cc

@@ -5,12 +5,7 @@ use Rattle.room_nodes.specs.declared.nodes.Change.{Change}
 use Rattle.room_model.specs.History.{History, empty_history, note, noted, pause, paused_at, resume, resumed_at, clear, emptied, newest, entry_at}
 use Rattle.room_model.specs.Calls.{Way, Undo, Redo, entry_of, gone}
 use Rattle.room_model.specs.Sound.{HoldsOnly, changes_or_none}
-
-some_is : {A : Type 0} (x y : A) → Some x ≡ Some y → x ≡ y
-some_is x y p = cc
-
-none_some : {A : Type 0} (x : A) → None ≡ Some x → ⊥
-none_some x p = cc
+use Rattle.room_laws.proofs.Facts.{some_is, none_some}
 
 module _ (P : List Change → Type 0) (none : P []) (more : (xs ys : List Change) → P xs → P ys → P (xs ++ ys)) where
   all_take : (n : ℕ) (es : List (List Change)) → AllByRecursion P es → AllByRecursion P (take n es)

@@ -10,6 +10,7 @@ use Rattle.room_model.specs.World.{Conn, Seat, state_in}
 use Rattle.room_model.specs.Run.{Run, seat, account, all_given, IsUndisturbed}
 use Rattle.room_laws.specs.Core.{Core, core, actor}
 use Rattle.room_laws.specs.Invariant
+use Rattle.room_laws.proofs.Facts.{some_is, none_some}
 
 abbrev pub Undisturbed : List (ℕ × Option ℕ) → ℕ → Core → Type 0
 Undisturbed given c x = all_given c (actor x) given ≡ true
@@ -63,12 +64,6 @@ module _ (r t : Run) (c : ℕ) where
     pub ups : (j : ℕ) → (Invariant.conn t.world j).owner ≡ Some c → Undisturbed r.given c (core y.account)
         → Invariant.Ups (y.present ≡ Some j) (y.account).session (Invariant.tried (core y.account)) bs
         (last_of (Invariant.sessions r) (actor (core y.account))) (Invariant.link t.world j) (Invariant.conn t.world j).up
-
-some_is : {A : Type 0} (x y : A) → Some x ≡ Some y → x ≡ y
-some_is x y e = cc
-
-none_some : {A : Type 0} (x : A) → None ≡ Some x → ⊥
-none_some x e = cc
 
 module _ (r t : Run) (c : ℕ) (y : Seat) (bs : List Batch) (s : State) (st : Invariant.Inv s r) (h : Change r t c y bs s) where
   same_sessions : Invariant.sessions t ≡ Invariant.sessions r

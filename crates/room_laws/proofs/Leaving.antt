@@ -17,9 +17,7 @@ use Rattle.room_laws.proofs.Maps.{mine, mine-append, given_all, passes, deliver_
 use Rattle.room_laws.proofs.Served.{fed}
 use Rattle.room_laws.proofs.Calm.{ups_after, given_fed, SaidTo, passes_said, Same, Left, Fetched, calm}
 use Rattle.room_laws.proofs.OwnLines.{keeps_saying}
-
-pub none_some : {A : Type 0} (x : A) → None ≡ Some x → ⊥
-none_some x e = cc
+use Rattle.room_laws.proofs.Facts.{none_some}
 
 pub ups_passed : (us : List Up) (p : Link → Bool) (m : ServerMsg) (l : Option Link) → ups_after us (passes p (Message m) l) ≡ us
 ups_passed us p m None = refl

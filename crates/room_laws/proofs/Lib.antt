@@ -7,7 +7,6 @@ mod Batches
 mod Calls
 mod Calm
 mod ClientLines
-mod ClockRuns
 mod ClocksKept
 mod Comings
 mod Commits
@@ -16,6 +15,8 @@ mod Dials
 mod Downs
 mod EditMakes
 mod Edits
+mod EveryRun
+mod Facts
 mod Follows
 mod Frame
 mod Frames
@@ -63,6 +64,7 @@ mod SoundSends
 mod SoundServes
 mod Spared
 mod Speaks
+mod StateItems
 mod Stops
 mod Strange
 mod Strangers

@@ -16,12 +16,7 @@ use Rattle.room_laws.proofs.Keep.{client_as, ups_as}
 use Rattle.room_laws.proofs.Dials.{OpenedHost, opened_at_host, BareIn}
 use Rattle.room_laws.proofs.Strange.{keeps_strange}
 use Rattle.room_laws.proofs.OwnLines.{keeps_saying}
-
-none_some : {A : Type 0} (x : A) → None ≡ Some x → ⊥
-none_some x e = cc
-
-some_is : {A : Type 0} (x y : A) → Some x ≡ Some y → x ≡ y
-some_is x y e = cc
+use Rattle.room_laws.proofs.Facts.{some_is, none_some}
 
 bare_none : (o : Option Link) (l : Link) (a : ℕ) → BareIn o → o ≡ Some l → l.actor ≡ Some a → ⊥
 bare_none None l a b e f = none_some l e

@@ -22,9 +22,10 @@ use Rattle.room_log.specs.Follows.{most, most_actor}
 use Rattle.room_model.specs.Init.{Init, Plain, AnObject, AMap, AList, Parts, no_parts, part, Inits, no_inits, init, is_plain, nodes_in, live_nodes, part_nodes, init_nodes, plain_depth, parts_plain_depth, inits_plain_depth, positions_in, parts_positions, item_positions, plain_field, plain_fields, made_id, creates, live_creates, part_creates, item_creates}
 use Rattle.room_model.specs.Sound.{IsSoundInit, AreSoundParts, AreSoundInits, names_of}
 use Rattle.room_laws.proofs.Patches.{Members}
-use Rattle.room_laws.proofs.Reversals.{EachValid, each_append, both}
+use Rattle.room_laws.proofs.Reversals.{EachValid, each_append}
 use Rattle.room_laws.proofs.MadePositions.{ArePositions, pos_utf8, all_front, all_back}
 use Rattle.room_ids.specs.Position.{is_pos}
+use Rattle.room_laws.proofs.Facts.{both}
 
 -- a value stands for itself
 

@@ -15,6 +15,7 @@ use Rattle.room_ids.proofs.Orders.{is_pos-spelled}
 use Rattle.room_nodes.proofs.Listing.{Has, parts as both_parts, less_of}
 use Rattle.room_model.specs.Edits.{too_long, key_at, key_in, inserted_key, moved_key}
 use Rattle.room_model.specs.Init.{Init, Plain, AnObject, AMap, AList, Parts, no_parts, part, Inits, no_inits, init, positions_in, parts_positions, item_positions}
+use Rattle.room_laws.proofs.Facts.{some_is, some_none}
 
 abbrev pub IsShort : List ℕ → Type 0
 IsShort k = length k ≤ 4096
@@ -39,12 +40,6 @@ module _ (P : List ℕ → Type 0) where
   pub all_back : (xs ys : List (List ℕ)) → AllByRecursion P (xs ++ ys) → AllByRecursion P ys
   all_back [] ys h = h
   all_back (x ∷ xs) ys h = all_back xs ys h.1
-
-some_is : {A : Type 0} (x y : A) → Some x ≡ Some y → x ≡ y
-some_is x y p = cc
-
-some_none : {A : Type 0} (x : A) → Some x ≡ None → ⊥
-some_none x p = cc
 
 short_by : (b : Bool) (k : List ℕ) (o : Option ℕ) → nat_lt 4096 (length k) ≡ b → cond b (Some (length k)) o ≡ None → IsShort k × (o ≡ None)
 short_by true k o t e = absurd (some_none (length k) e)

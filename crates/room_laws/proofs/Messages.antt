@@ -23,7 +23,8 @@ use Rattle.room_laws.specs.Queues.{Place, IsOn, Says, SaysPart, Waits, InOrder}
 use Rattle.room_laws.specs.Invariant
 use Rattle.room_laws.proofs.Batches.{ends_upto, beyond-append, beyond_upto, Runs-front}
 use Rattle.room_laws.proofs.Matches.{left}
-use Rattle.room_laws.proofs.Advance.{advance, next_taken, tree_after-append, bodies_again}
+use Rattle.room_laws.proofs.Advance.{advance, next_taken, tree_after-append}
+use Rattle.room_laws.proofs.Ops.{bodies_again}
 use Rattle.room_laws.proofs.Queues.{frames, unnamed}
 use Rattle.room_laws.proofs.Owns.{welcome, loading, updating, own_parts, own_room, own_named, own_whole, own_update, told_is, rest_is, nothing_done}
 use Rattle.room_laws.proofs.Cuts.{ups_idle}

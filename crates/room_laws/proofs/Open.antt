@@ -20,20 +20,7 @@ use Rattle.room_model.specs.Calls as calls
 use Rattle.room_model.specs.Comes
 use Rattle.room_laws.specs.Open.{base, base_over, GoesBack, IsOpenOn, Notes, KeepsOpen, brings_none}
 use Rattle.room_laws.proofs.Settled.{fold-append}
-
-pub under : {A E : Type 0} (b : Bool) (e : E) (x y : A) → cond b (Err e) (Ok x) ≡ Ok y → x ≡ y
-under true e x y p = cc
-under false e x y p = cc
-
-over : {A E : Type 0} (b : Bool) (e : E) (x y : A) → cond b (Ok x) (Err e) ≡ Ok y → x ≡ y
-over true e x y p = cc
-over false e x y p = cc
-
-pub ok_is : {A E : Type 0} (x y : A) → ◌≡◌ {A = Result A E} (Ok x) (Ok y) → x ≡ y
-ok_is x y p = cc
-
-pub some_is : {A : Type 0} (x y : A) → Some x ≡ Some y → x ≡ y
-some_is x y e = cc
+use Rattle.room_laws.proofs.Facts.{some_is, ok_is, under, over}
 
 head_is : {A : Type 0} (x y : A) (xs ys : List A) → x ∷ xs ≡ y ∷ ys → x ≡ y
 head_is x y xs ys e = cc

@@ -31,7 +31,7 @@ pub all_mine : (a f : ℕ) (bs : List Body) → foreign_in a (ops_from a f bs) �
 all_mine a f [] = refl
 all_mine a f (b ∷ bs) = rw (eq-eqb a a refl) (all_mine a (f + 1) bs)
 
-bodies_again : (a f : ℕ) (bs : List Body) → bodies_of (ops_from a f bs) ≡ bs
+pub bodies_again : (a f : ℕ) (bs : List Body) → bodies_of (ops_from a f bs) ≡ bs
 bodies_again a f [] = refl
 bodies_again a f (b ∷ bs) = ap (λ cs. b ∷ cs) (bodies_again a (f + 1) bs)
 

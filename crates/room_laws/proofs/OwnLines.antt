@@ -27,12 +27,7 @@ use Rattle.room_laws.proofs.Dials.{Dialed, keeps_dialed, opened_at_host}
 use Rattle.room_laws.proofs.RunSteps.{updates_of-nil}
 use Rattle.room_laws.proofs.Sends.{Turn, Turned, turns, sent_up, sent_on}
 use Rattle.room_laws.proofs.Speaks.{flush_to, flush_core, resent_core, said, flush_says, flush_said, resend_says, resend_said, send_said, send_append, send_fresh, send_issued, Sendable, turned_said, turned_sent}
-
-none_some : {A : Type 0} (x : A) → None ≡ Some x → ⊥
-none_some x e = cc
-
-some_is : {A : Type 0} (x y : A) → Some x ≡ Some y → x ≡ y
-some_is x y e = cc
+use Rattle.room_laws.proofs.Facts.{some_is, none_some}
 
 -- a step that only says something
 pub keeps_saying : (s : State) (r : Run) (ls : List (List ℕ)) → Invariant.Inv s r → Invariant.Inv s (with_step r (World.saying r.world ls))

@@ -23,9 +23,11 @@ use Rattle.room_nodes.specs.Shape.{Nodes, child_at}
 use Rattle.room_nodes.specs.Sound.{IsSoundBody, AreSoundBodies, IsSoundKind}
 use Rattle.room_nodes.specs.Steps.{step, is_void, is_under, holds_list}
 use Rattle.room_nodes.proofs.Steps.{formed-step}
-use Rattle.room_steps.specs.Laws.{KeepsSound as StepsKeepSound, KeepsShallow as StepsKeepShallow}
+use Rattle.room_steps.proofs.Shallow.{keeps_shallow}
+use Rattle.room_steps.proofs.Sound.{keeps_sound}
 use Rattle.room_model.specs.Sound.{AreValidBodies, IsValidTree}
 use Rattle.room_laws.proofs.Patches.{Members}
+use Rattle.room_laws.proofs.Facts.{some_is, none_some, both}
 
 -- operations one by one
 
@@ -64,10 +66,6 @@ valid_append bs cs h k = of_each (bs ++ cs) (each_append bs cs (each_of bs h) (e
 abbrev pub IsField : Value → Type 0
 IsField v = IsJson v × (nat_le (depth v) 55 ≡ true)
 
-pub both : (a b : Bool) → a ≡ true → b ≡ true → (a && b) ≡ true
-both true b p q = q
-both false b p q = cc
-
 first_of : (a b : Bool) → (a && b) ≡ true → a ≡ true
 first_of true b p = refl
 first_of false b p = cc
@@ -75,12 +73,6 @@ first_of false b p = cc
 second_of : (a b : Bool) → (a && b) ≡ true → b ≡ true
 second_of true b p = p
 second_of false b p = cc
-
-some_is : {A : Type 0} (x y : A) → Some x ≡ Some y → x ≡ y
-some_is x y p = cc
-
-none_some : {A : Type 0} (x : A) → None ≡ Some x → ⊥
-none_some x p = cc
 
 found_by : (b : Bool) (v w : Value) (o : Option Value) → cond b (Some v) o ≡ Some w → IsField v → (o ≡ Some w → IsField w) → IsField w
 found_by true v w o e h more = subst IsField (some_is v w e) h
@@ -228,17 +220,16 @@ module _ (t : Nodes) (valid : IsValidTree t) where
   pub valid_reverse : (b : Body) → IsSoundBody b → EachValid (reverse t b)
   valid_reverse b h = void_by (is_void t b) (reversed t b) (valid_reversed b h)
 
-module _ (sound : StepsKeepSound) (shallow : StepsKeepShallow) where
-  pub valid_step : (t : Nodes) (b : Body) → IsValidTree t → IsValidBody b → IsValidTree (step t b)
-  valid_step t b h s = record {
-    formed = formed-step t h.formed b;
-    sound = sound.step t b h.formed h.sound s.0;
-    shallow = shallow.step t b h.shallow s.1;
-  }
+pub valid_step : (t : Nodes) (b : Body) → IsValidTree t → IsValidBody b → IsValidTree (step t b)
+valid_step t b h s = record {
+  formed = formed-step t h.formed b;
+  sound = keeps_sound.step t b h.formed h.sound s.0;
+  shallow = keeps_shallow.step t b h.shallow s.1;
+}
 
-  each_reverse : (t : Nodes) (bs : List Body) → IsValidTree t → EachValid bs → EachValid (reverse_all t bs)
-  each_reverse t [] h s = tt
-  each_reverse t (b ∷ bs) h s = each_append (reverse_all (step t b) bs) (reverse t b) (each_reverse (step t b) bs (valid_step t b h s.0) s.1) (valid_reverse t h b s.0.0)
+each_reverse : (t : Nodes) (bs : List Body) → IsValidTree t → EachValid bs → EachValid (reverse_all t bs)
+each_reverse t [] h s = tt
+each_reverse t (b ∷ bs) h s = each_append (reverse_all (step t b) bs) (reverse t b) (each_reverse (step t b) bs (valid_step t b h s.0) s.1) (valid_reverse t h b s.0.0)
 
-  pub valid_reverse_all : (t : Nodes) (bs : List Body) → IsValidTree t → AreValidBodies bs → AreValidBodies (reverse_all t bs)
-  valid_reverse_all t bs h s = of_each (reverse_all t bs) (each_reverse t bs h (each_of bs s))
+pub valid_reverse_all : (t : Nodes) (bs : List Body) → IsValidTree t → AreValidBodies bs → AreValidBodies (reverse_all t bs)
+valid_reverse_all t bs h s = of_each (reverse_all t bs) (each_reverse t bs h (each_of bs s))

@@ -1,18 +1,17 @@
 -- Each call and each message keeps an account sound.
-use Rattle.room_steps.specs.Laws.{KeepsSound as StepsKeepSound, KeepsShallow as StepsKeepShallow}
 use Rattle.room_laws.specs.Accounts.{KeepsSound, TreesAreValid, EmptyFits}
 use Rattle.room_laws.proofs.SoundCalls.{new_sound, lost_sound, dialled_sound, begin_sound, end_sound, pause_sound, resume_sound, clear_sound, presence_sound, event_sound, flushed_sound, resent_sound, edit_sound, back_sound}
 use Rattle.room_laws.proofs.SoundComes.{comes_sound}
 
-pub keeps_sound : StepsKeepSound → StepsKeepShallow → TreesAreValid → EmptyFits → KeepsSound
-keeps_sound steps depths trees fits = record {
+pub keeps_sound : TreesAreValid → EmptyFits → KeepsSound
+keeps_sound trees fits = record {
   new = new_sound fits;
   lost = lost_sound;
   dialled = dialled_sound;
-  edit = edit_sound steps depths;
+  edit = edit_sound;
   batch_begin = begin_sound;
   batch_end = end_sound;
-  go_back = back_sound steps depths;
+  go_back = back_sound;
   presence = presence_sound;
   event = event_sound;
   pauses = pause_sound;
@@ -20,5 +19,5 @@ keeps_sound steps depths trees fits = record {
   clears = clear_sound;
   flushed = flushed_sound;
   resent = resent_sound;
-  comes = comes_sound steps depths trees;
+  comes = comes_sound trees;
 }

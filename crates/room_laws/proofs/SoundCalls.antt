@@ -13,7 +13,6 @@ use Rattle.room_nodes.specs.declared.nodes.Body.{Body}
 use Rattle.room_nodes.specs.declared.nodes.Change.{Change}
 use Rattle.room_nodes.specs.Reversal.{reverse_all}
 use Rattle.room_nodes.specs.Shape.{Nodes}
-use Rattle.room_steps.specs.Laws.{KeepsSound as StepsKeepSound, KeepsShallow as StepsKeepShallow}
 use Rattle.room_msg.specs.declared.messages.Resume.{Resume}
 use Rattle.room_log.specs.Log.{ops_from, bodies_of}
 use Rattle.room_log.specs.Follows.{most, most_actor}
@@ -27,16 +26,11 @@ use Rattle.room_laws.specs.Accounts.{EmptyFits}
 use Rattle.room_laws.proofs.ClocksKept.{issues_more}
 use Rattle.room_laws.proofs.EditMakes.{IsMade, made_valid, unspent}
 use Rattle.room_laws.proofs.Histories.{holds_empty, holds_note, holds_pause, holds_resume, holds_clear, holds_entry, holds_gone}
-use Rattle.room_laws.proofs.Open.{ok_is, edit_as}
+use Rattle.room_laws.proofs.Open.{edit_as}
 use Rattle.room_laws.proofs.Patches.{valid_merged, valid_back}
 use Rattle.room_laws.proofs.Reversals.{valid_append, valid_reverse_all}
 use Rattle.room_laws.proofs.Validity.{no_bodies, changes_append, ops_valid, entry_valid, presence_valid, patches_append, patches_back, shown_valid, bare_valid, reversal_valid, own_issued, nothing_issued, remade, restaged, still_shown, called}
-
-some_is : {A : Type 0} (x y : A) → Some x ≡ Some y → x ≡ y
-some_is x y p = cc
-
-none_some : {A : Type 0} (x : A) → None ≡ Some x → ⊥
-none_some x p = cc
+use Rattle.room_laws.proofs.Facts.{some_is, none_some, ok_is}
 
 idle_synced : Idle ≢ Synced
 idle_synced e = cc
@@ -232,78 +226,77 @@ tree_there : (x : Account) (o : Option Nodes) (t : Nodes) → shown_over x o ≡
 tree_there x None t e = absurd (none_some t e)
 tree_there x (Some u) t e = refl
 
-module _ (steps : StepsKeepSound) (depths : StepsKeepShallow) where
-  changes_valid : (t : Nodes) (bs : List Body) → IsValidTree t → AreValidBodies bs → AreValidChanges (calls.changes_back t bs)
-  changes_valid t bs v k = ops_valid (reverse_all t bs) (valid_reverse_all steps depths t bs v k)
+changes_valid : (t : Nodes) (bs : List Body) → IsValidTree t → AreValidBodies bs → AreValidChanges (calls.changes_back t bs)
+changes_valid t bs v k = ops_valid (reverse_all t bs) (valid_reverse_all t bs v k)
 
-  edited_by : (x : Account) (t : Nodes) (m : Made) (bs : List Body) (o : Option OpenBatch) → x.batch ≡ o → IsSound x → is_some x.confirmed ≡ true → IsValidTree t → AreValidBodies bs → m.next.node ≤ most + 1
-      → last_issued x + 1 + length (bodies_in o) + length bs ≤ most + 1 → IsSound (calls.edited_in x t m bs o)
-  edited_by x t m bs (Some o) e h there v k node op =
-      let own : AreOwn x.told (issued x) (Some o) = subst (AreOwn x.told (issued x)) e h.own in
-      let p : Option OpenBatch = Some (record { bodies = o.bodies ++ bs; changes = calls.changes_back t bs ++ o.changes; keys = o.keys }) in
-      called x x.fresh p m.next.node x.me x.unsent x.history h (still_shown x.stage (issued x) (issued x) x.batch p x.history x.history x.confirmed there h.tree) node
-      (record {
-        runs = own.runs;
-        closed = own.closed;
-        bodies = valid_append o.bodies bs own.bodies k;
-        changes = changes_append (calls.changes_back t bs) o.changes (changes_valid t bs v k) own.changes;
-        next = omega (arith, op, length-append o.bodies bs);
-      }) h.history h.presence.own h.presence.fits
-  edited_by x t m [] None e h there v k node op = h
-  edited_by x t m (b ∷ bs) None e h there v k node op =
-      called x (x.fresh ++ calls.batch_of x (b ∷ bs) ∷ []) x.batch m.next.node x.me x.unsent (note (calls.changes_back t (b ∷ bs)) x.history) h
-      (still_shown x.stage (issued x) (x.sent ++ (x.fresh ++ calls.batch_of x (b ∷ bs) ∷ [])) x.batch x.batch x.history (note (calls.changes_back t (b ∷ bs)) x.history) x.confirmed there h.tree) node
-      (subst (AreOwn x.told (x.sent ++ (x.fresh ++ calls.batch_of x (b ∷ bs) ∷ []))) (sym e) (own_issued x (b ∷ bs) (issues_more x (b ∷ bs) h.own.runs) h.own.closed k (omega (arith, op))))
-      (holds_note AreValidChanges tt changes_append (calls.changes_back t (b ∷ bs)) x.history (changes_valid t (b ∷ bs) v k) h.history) h.presence.own h.presence.fits
+edited_by : (x : Account) (t : Nodes) (m : Made) (bs : List Body) (o : Option OpenBatch) → x.batch ≡ o → IsSound x → is_some x.confirmed ≡ true → IsValidTree t → AreValidBodies bs → m.next.node ≤ most + 1
+    → last_issued x + 1 + length (bodies_in o) + length bs ≤ most + 1 → IsSound (calls.edited_in x t m bs o)
+edited_by x t m bs (Some o) e h there v k node op =
+    let own : AreOwn x.told (issued x) (Some o) = subst (AreOwn x.told (issued x)) e h.own in
+    let p : Option OpenBatch = Some (record { bodies = o.bodies ++ bs; changes = calls.changes_back t bs ++ o.changes; keys = o.keys }) in
+    called x x.fresh p m.next.node x.me x.unsent x.history h (still_shown x.stage (issued x) (issued x) x.batch p x.history x.history x.confirmed there h.tree) node
+    (record {
+      runs = own.runs;
+      closed = own.closed;
+      bodies = valid_append o.bodies bs own.bodies k;
+      changes = changes_append (calls.changes_back t bs) o.changes (changes_valid t bs v k) own.changes;
+      next = omega (arith, op, length-append o.bodies bs);
+    }) h.history h.presence.own h.presence.fits
+edited_by x t m [] None e h there v k node op = h
+edited_by x t m (b ∷ bs) None e h there v k node op =
+    called x (x.fresh ++ calls.batch_of x (b ∷ bs) ∷ []) x.batch m.next.node x.me x.unsent (note (calls.changes_back t (b ∷ bs)) x.history) h
+    (still_shown x.stage (issued x) (x.sent ++ (x.fresh ++ calls.batch_of x (b ∷ bs) ∷ [])) x.batch x.batch x.history (note (calls.changes_back t (b ∷ bs)) x.history) x.confirmed there h.tree) node
+    (subst (AreOwn x.told (x.sent ++ (x.fresh ++ calls.batch_of x (b ∷ bs) ∷ []))) (sym e) (own_issued x (b ∷ bs) (issues_more x (b ∷ bs) h.own.runs) h.own.closed k (omega (arith, op))))
+    (holds_note AreValidChanges tt changes_append (calls.changes_back t (b ∷ bs)) x.history (changes_valid t (b ∷ bs) v k) h.history) h.presence.own h.presence.fits
 
-  pub edit_sound : (x : Account) (e : Edit) (out : calls.Done) → IsSound x → IsSoundEdit e → calls.edit x e ≡ Ok out → IsSound out.account
-  edit_sound x e out h s p =
-      let a = edit_as x e (shown x) out p in
-      let v : IsValidTree a.tree = shown_valid steps depths x a.tree h a.shows in
-      let m : IsMade (clocks x) a.made = made_valid a.tree (clocks x) e a.made v s (actor_bound x.session h.session) h.node h.own.next a.makes in
-      subst (λ (d : calls.Done). IsSound d.account) a.is (edited_by x a.tree a.made (bodies_of a.made.ops) x.batch refl h (tree_there x x.confirmed a.tree a.shows) v m.bodies m.node m.op)
+pub edit_sound : (x : Account) (e : Edit) (out : calls.Done) → IsSound x → IsSoundEdit e → calls.edit x e ≡ Ok out → IsSound out.account
+edit_sound x e out h s p =
+    let a = edit_as x e (shown x) out p in
+    let v : IsValidTree a.tree = shown_valid x a.tree h a.shows in
+    let m : IsMade (clocks x) a.made = made_valid a.tree (clocks x) e a.made v s (actor_bound x.session h.session) h.node h.own.next a.makes in
+    subst (λ (d : calls.Done). IsSound d.account) a.is (edited_by x a.tree a.made (bodies_of a.made.ops) x.batch refl h (tree_there x x.confirmed a.tree a.shows) v m.bodies m.node m.op)
 
-  -- undo and redo
+-- undo and redo
 
-  went_sound : (way : calls.Way) (x : Account) (entry : List Change) → x.batch ≡ None → calls.entry_of way x.history ≡ Some entry → IsSound x → spent (last_issued x + 1) (length (calls.entry_bodies entry)) ≡ None
-      → calls.presence_size (calls.entry_presence x.me entry) ≤ most_bytes → IsSound (calls.went_back way x entry).account
-  went_sound way x entry e f h s fits =
-      let bs = calls.entry_bodies entry in
-      let t = calls.tree_or_bare (shown x) in
-      let valid : AreValidChanges entry = holds_entry AreValidChanges tt changes_append way x.history entry h.history f in
-      let own : AreOwn x.told (issued x) None = subst (AreOwn x.told (issued x)) e h.own in
-      let past = calls.gone way (calls.entry_reversal t x.me entry) x.history in
-      called x (x.fresh ++ calls.issues_of x bs) x.batch x.node (calls.entry_presence x.me entry) (calls.entry_names x.unsent entry) past h
-      (remade x.stage (issued x) (x.sent ++ (x.fresh ++ calls.issues_of x bs)) x.batch x.batch x.history past x.confirmed
-      (λ (m : MadeNothing (issued x) x.batch x.history).
-      let patches : ArePatches entry = holds_entry ArePatches refl patches_append way x.history entry m.history f in
-      record { closed = nothing_issued x bs m.closed patches; bodies = m.bodies; changes = m.changes; history = holds_gone ArePatches refl patches_append way (calls.entry_reversal t x.me entry) x.history (patches_back t x.me entry patches) m.history }) h.tree)
-      h.node (subst (AreOwn x.told (x.sent ++ (x.fresh ++ calls.issues_of x bs))) (sym e) (own_issued x bs (issues_more x bs h.own.runs) h.own.closed (entry_valid entry valid) (unspent (last_issued x + 1) (length bs) s (omega (arith, own.next)))))
-      (holds_gone AreValidChanges tt changes_append way (calls.entry_reversal t x.me entry) x.history (reversal_valid steps depths t x.me entry (bare_valid steps depths x h) h.presence.own valid) h.history)
-      (presence_valid x.me entry h.presence.own valid) fits
+went_sound : (way : calls.Way) (x : Account) (entry : List Change) → x.batch ≡ None → calls.entry_of way x.history ≡ Some entry → IsSound x → spent (last_issued x + 1) (length (calls.entry_bodies entry)) ≡ None
+    → calls.presence_size (calls.entry_presence x.me entry) ≤ most_bytes → IsSound (calls.went_back way x entry).account
+went_sound way x entry e f h s fits =
+    let bs = calls.entry_bodies entry in
+    let t = calls.tree_or_bare (shown x) in
+    let valid : AreValidChanges entry = holds_entry AreValidChanges tt changes_append way x.history entry h.history f in
+    let own : AreOwn x.told (issued x) None = subst (AreOwn x.told (issued x)) e h.own in
+    let past = calls.gone way (calls.entry_reversal t x.me entry) x.history in
+    called x (x.fresh ++ calls.issues_of x bs) x.batch x.node (calls.entry_presence x.me entry) (calls.entry_names x.unsent entry) past h
+    (remade x.stage (issued x) (x.sent ++ (x.fresh ++ calls.issues_of x bs)) x.batch x.batch x.history past x.confirmed
+    (λ (m : MadeNothing (issued x) x.batch x.history).
+    let patches : ArePatches entry = holds_entry ArePatches refl patches_append way x.history entry m.history f in
+    record { closed = nothing_issued x bs m.closed patches; bodies = m.bodies; changes = m.changes; history = holds_gone ArePatches refl patches_append way (calls.entry_reversal t x.me entry) x.history (patches_back t x.me entry patches) m.history }) h.tree)
+    h.node (subst (AreOwn x.told (x.sent ++ (x.fresh ++ calls.issues_of x bs))) (sym e) (own_issued x bs (issues_more x bs h.own.runs) h.own.closed (entry_valid entry valid) (unspent (last_issued x + 1) (length bs) s (omega (arith, own.next)))))
+    (holds_gone AreValidChanges tt changes_append way (calls.entry_reversal t x.me entry) x.history (reversal_valid t x.me entry (bare_valid x h) h.presence.own valid) h.history)
+    (presence_valid x.me entry h.presence.own valid) fits
 
-  size_at : (way : calls.Way) (x : Account) (entry : List Change) (out : calls.Done) (b c : Bool) (fault : calls.UndoFault) → nat_lt most_bytes (calls.presence_size (calls.entry_presence x.me entry)) ≡ c → x.batch ≡ None → calls.entry_of way x.history ≡ Some entry → IsSound x
-      → spent (last_issued x + 1) (length (calls.entry_bodies entry)) ≡ None
-      → cond b (Err fault) (cond c (Err (calls.UndoTooLarge (calls.presence_size (calls.entry_presence x.me entry)))) (Ok (Some (calls.went_back way x entry)))) ≡ Ok (Some out) → IsSound out.account
-  size_at way x entry out true c fault q e f h s p = cc
-  size_at way x entry out false true fault q e f h s p = cc
-  size_at way x entry out false false fault q e f h s p =
-      subst (λ (d : calls.Done). IsSound d.account) (some_is (calls.went_back way x entry) out (ok_is _ _ p)) (went_sound way x entry e f h s (fits_by (calls.presence_size (calls.entry_presence x.me entry)) q))
+size_at : (way : calls.Way) (x : Account) (entry : List Change) (out : calls.Done) (b c : Bool) (fault : calls.UndoFault) → nat_lt most_bytes (calls.presence_size (calls.entry_presence x.me entry)) ≡ c → x.batch ≡ None → calls.entry_of way x.history ≡ Some entry → IsSound x
+    → spent (last_issued x + 1) (length (calls.entry_bodies entry)) ≡ None
+    → cond b (Err fault) (cond c (Err (calls.UndoTooLarge (calls.presence_size (calls.entry_presence x.me entry)))) (Ok (Some (calls.went_back way x entry)))) ≡ Ok (Some out) → IsSound out.account
+size_at way x entry out true c fault q e f h s p = cc
+size_at way x entry out false true fault q e f h s p = cc
+size_at way x entry out false false fault q e f h s p =
+    subst (λ (d : calls.Done). IsSound d.account) (some_is (calls.went_back way x entry) out (ok_is _ _ p)) (went_sound way x entry e f h s (fits_by (calls.presence_size (calls.entry_presence x.me entry)) q))
 
-  clocked_at : (way : calls.Way) (x : Account) (entry : List Change) (out : calls.Done) (o : Option ℕ) → spent (last_issued x + 1) (length (calls.entry_bodies entry)) ≡ o → x.batch ≡ None → calls.entry_of way x.history ≡ Some entry → IsSound x
-      → calls.back_clocked way x entry (calls.entry_bodies entry) o ≡ Ok (Some out) → IsSound out.account
-  clocked_at way x entry out (Some l) q e f h p = cc
-  clocked_at way x entry out None q e f h p =
-      let size = size_of (frame_of_ops (ops_from (actor x) (last_issued x + 1) (calls.entry_bodies entry))) in
-      size_at way x entry out (is_some_list (calls.entry_bodies entry) && nat_lt most_bytes size) (nat_lt most_bytes (calls.presence_size (calls.entry_presence x.me entry))) (calls.UndoBatchTooLarge size) refl e f h q p
+clocked_at : (way : calls.Way) (x : Account) (entry : List Change) (out : calls.Done) (o : Option ℕ) → spent (last_issued x + 1) (length (calls.entry_bodies entry)) ≡ o → x.batch ≡ None → calls.entry_of way x.history ≡ Some entry → IsSound x
+    → calls.back_clocked way x entry (calls.entry_bodies entry) o ≡ Ok (Some out) → IsSound out.account
+clocked_at way x entry out (Some l) q e f h p = cc
+clocked_at way x entry out None q e f h p =
+    let size = size_of (frame_of_ops (ops_from (actor x) (last_issued x + 1) (calls.entry_bodies entry))) in
+    size_at way x entry out (is_some_list (calls.entry_bodies entry) && nat_lt most_bytes size) (nat_lt most_bytes (calls.presence_size (calls.entry_presence x.me entry))) (calls.UndoBatchTooLarge size) refl e f h q p
 
-  entry_at : (way : calls.Way) (x : Account) (out : calls.Done) (o : Option (List Change)) → calls.entry_of way x.history ≡ o → x.batch ≡ None → IsSound x → calls.back_entry way x o ≡ Ok (Some out) → IsSound out.account
-  entry_at way x out None f e h p = absurd (none_some out (ok_is _ _ p))
-  entry_at way x out (Some entry) f e h p = clocked_at way x entry out (spent (last_issued x + 1) (length (calls.entry_bodies entry))) refl e f h p
+entry_at : (way : calls.Way) (x : Account) (out : calls.Done) (o : Option (List Change)) → calls.entry_of way x.history ≡ o → x.batch ≡ None → IsSound x → calls.back_entry way x o ≡ Ok (Some out) → IsSound out.account
+entry_at way x out None f e h p = absurd (none_some out (ok_is _ _ p))
+entry_at way x out (Some entry) f e h p = clocked_at way x entry out (spent (last_issued x + 1) (length (calls.entry_bodies entry))) refl e f h p
 
-  back_at : (way : calls.Way) (x : Account) (out : calls.Done) (o : Option OpenBatch) → x.batch ≡ o → IsSound x → calls.back_at way x o ≡ Ok (Some out) → IsSound out.account
-  back_at way x out (Some o) e h p = cc
-  back_at way x out None e h p = entry_at way x out (calls.entry_of way x.history) refl e h p
+back_at : (way : calls.Way) (x : Account) (out : calls.Done) (o : Option OpenBatch) → x.batch ≡ o → IsSound x → calls.back_at way x o ≡ Ok (Some out) → IsSound out.account
+back_at way x out (Some o) e h p = cc
+back_at way x out None e h p = entry_at way x out (calls.entry_of way x.history) refl e h p
 
-  pub back_sound : (way : calls.Way) (x : Account) (out : calls.Done) → IsSound x → calls.go_back way x ≡ Ok (Some out) → IsSound out.account
-  back_sound way x out h p = back_at way x out x.batch refl h p
+pub back_sound : (way : calls.Way) (x : Account) (out : calls.Done) → IsSound x → calls.go_back way x ≡ Ok (Some out) → IsSound out.account
+back_sound way x out h p = back_at way x out x.batch refl h p

@@ -19,7 +19,6 @@ use Rattle.room_items.specs.Items.{tree_in}
 use Rattle.room_msg.specs.declared.messages.Resume.{Resume}
 use Rattle.room_msg.specs.declared.messages.ServerMsg.{ServerMsg}
 use Rattle.room_msg.specs.declared.messages.ServerMsg.TheVariants as server
-use Rattle.room_steps.specs.Laws.{KeepsSound as StepsKeepSound, KeepsShallow as StepsKeepShallow}
 use Rattle.room_log.specs.Log.{actor_of, clock_of, bodies_of}
 use Rattle.room_log.specs.Follows.{IsKey, most, most_actor}
 use Rattle.room_model.specs.Presence.{Others, nobody, other_full, other_patched, patched_at, forgotten}
@@ -27,21 +26,11 @@ use Rattle.room_model.specs.Account.{Account, Batch, Part, Stage, Idle, Dialled,
 use Rattle.room_model.specs.Comes as Comes
 use Rattle.room_model.specs.Sound.{IsValidTree, AreOwn, HasTree, AreItems, IsSound}
 use Rattle.room_laws.specs.Accounts.{IsValidServerMsg, TreesAreValid}
-use Rattle.room_laws.proofs.ClockRuns.{beyond-append, ends_later}
+use Rattle.room_laws.proofs.Batches.{beyond-append, ends_later}
 use Rattle.room_laws.proofs.ClocksKept.{told_later, second_none}
-use Rattle.room_laws.proofs.Open.{ok_is}
 use Rattle.room_laws.proofs.Patches.{Members, sound_merged}
 use Rattle.room_laws.proofs.Validity.{own_beyond, restaged, valid_fold}
-
-some_is : {A : Type 0} (x y : A) → Some x ≡ Some y → x ≡ y
-some_is x y p = cc
-
-none_some : {A : Type 0} (x : A) → None ≡ Some x → ⊥
-none_some x p = cc
-
-over : {A E : Type 0} (b : Bool) (e : E) (x y : A) → cond b (Ok x) (Err e) ≡ Ok y → x ≡ y
-over true e x y p = cc
-over false e x y p = cc
+use Rattle.room_laws.proofs.Facts.{some_is, none_some, over, ok_is}
 
 -- what is shown of the others
 
@@ -218,7 +207,7 @@ updated_sound x os told t h v n l m = record {
   parts = h.parts;
 }
 
-module _ (steps : StepsKeepSound) (depths : StepsKeepShallow) (trees : TreesAreValid) where
+module _ (trees : TreesAreValid) where
   load_sound : (x : Account) (seq last : ℕ) (vs : List Value) (o : Option Nodes) (out : Comes.Took) → tree_in vs ≡ o → IsSound x → AreItems vs → seq ≤ most → Comes.load x seq last o ≡ Ok out → IsSound out.account
   load_sound x seq last vs None out q h k n p = cc
   load_sound x seq last vs (Some t) out q h k n p = fault_at x seq last t (Comes.state_fault x seq last) out refl h (trees vs t k q) n p
@@ -237,7 +226,7 @@ module _ (steps : StepsKeepSound) (depths : StepsKeepShallow) (trees : TreesAreV
       → Comes.update_told x os t r ≡ Ok out → IsSound out.account
   told_sound x os t (Err f) out q h v s l n p = cc
   told_sound x os t (Ok told) out q h v s l n p =
-      subst TookSound (ok_is _ out p) (updated_sound x os told t h (valid_fold steps depths t (bodies_of os) v (record { sound = ops_sound os s; shallow = ops_shallow os l })) n
+      subst TookSound (ok_is _ out p) (updated_sound x os told t h (valid_fold t (bodies_of os) v (record { sound = ops_sound os s; shallow = ops_shallow os l })) n
       (told_later (actor x) (last_issued x) os told x.told q) (told_within (actor x) (last_issued x) os told x.told (ends_later x.told (issued x) h.own.runs) q))
 
   tree_sound : (x : Account) (os : List Op) (o : Option Nodes) (out : Comes.Took) → IsSound x → HasTree x.stage (issued x) x.batch x.history o → AreSoundOps os → AreShallowOps os → x.n + 1 ≤ most → Comes.update_on x os o ≡ Ok out → IsSound out.account

@@ -28,15 +28,13 @@ use Rattle.room_laws.proofs.Frames.{joins, resumes, talks}
 use Rattle.room_laws.proofs.Serves.{ups_of}
 use Rattle.room_laws.proofs.OwnFrames.{serve_takes, outcome_of}
 use Rattle.room_laws.proofs.Whole.{stands}
+use Rattle.room_laws.proofs.Facts.{some_is, none_some, both}
 
 -- lists of sends
 
 split : (x y : Bool) → (x && y) ≡ true → (x ≡ true) × (y ≡ true)
 split true y e = (refl, e)
 split false y e = cc
-
-both : (x y : Bool) → x ≡ true → y ≡ true → (x && y) ≡ true
-both x y e f = rw (e, f) refl
 
 spared_append : (a b : List (ℕ × Down)) → spares_all a ≡ true → spares_all b ≡ true → spares_all (a ++ b) ≡ true
 spared_append [] b e f = f
@@ -97,12 +95,6 @@ spared_resumed v k l z = spared_append (Server.to_each (Server.holds z.actor) Se
 
 no_zero : (n : ℕ) → 0 < n → (n == 0) ≡ false
 no_zero n h = grind (arith, nat_tests)
-
-some_is : {A : Type 0} (x y : A) → Some x ≡ Some y → x ≡ y
-some_is x y e = cc
-
-none_some : {A : Type 0} (x : A) → None ≡ Some x → ⊥
-none_some x e = cc
 
 head_is : (u x : Up) (us y : List Up) → u ∷ us ≡ x ∷ y → u ≡ x
 head_is u x us y e = cc

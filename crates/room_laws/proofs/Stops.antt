@@ -19,9 +19,7 @@ use Rattle.room_laws.proofs.Keep.{client_as, ups_as}
 use Rattle.room_laws.proofs.OwnLines.{keeps_saying}
 use Rattle.room_laws.proofs.Sessions.{begun_since}
 use Rattle.room_laws.proofs.Served.{ClientOf}
-
-none_some : {A : Type 0} (x : A) → None ≡ Some x → ⊥
-none_some x e = cc
+use Rattle.room_laws.proofs.Facts.{none_some}
 
 pub record Stopping (s : State) (r t : Run) (grew : List Update) : Type 0 where
   pub seats : (d : ℕ) → seat t.world d ≡ seat r.world d

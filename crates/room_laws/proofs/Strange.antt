@@ -8,9 +8,7 @@ use Rattle.room_model.specs.World.{Conn, with_conn}
 use Rattle.room_model.specs.Run.{Run, seat}
 use Rattle.room_laws.specs.Invariant
 use Rattle.room_laws.proofs.Maps.{conn_same, conn_other, get_same, get_other}
-
-none_some : {A : Type 0} (x : A) → None ≡ Some x → ⊥
-none_some x e = cc
+use Rattle.room_laws.proofs.Facts.{none_some}
 
 module _ (s : State) (r : Run) (k : ℕ) (q p : Conn) (st : Invariant.Inv s r) (is : Invariant.conn r.world k ≡ q)
     (nobody : q.owner ≡ None) (nobody_after : p.owner ≡ None) (deaf : p.listens ≡ false → p.down ≡ []) (low : r.world.opened < k → ⊥) where

@@ -9,7 +9,7 @@ use Rattle.room_steps.specs.Laws.{UndoRestores}
 use Rattle.room_model.specs.Run.{Run, run, opened, account, issued_of}
 use Rattle.room_laws.specs.Ledger.{In}
 use Rattle.room_laws.specs.Laws.{Kept, Once}
-use Rattle.room_laws.specs.Undoing.{Accepts, TakesBack, IsSound, EachUndone, bodies_after}
+use Rattle.room_laws.specs.Undoing.{Accepts, TakesBack, IsInOrder, EachUndone, bodies_after}
 use Rattle.room_laws.proofs.Advance.{tree_after-append}
 use Rattle.room_laws.proofs.Settled.{fold_settled, formed_after, tree_is}
 use Rattle.room_laws.proofs.Whole.{each_once}
@@ -59,7 +59,7 @@ module _ (s : State) (r : Run) (c : ℕ) (kept : Kept s r c) (formed : IsFormed 
 
 module _ (restores : UndoRestores) where
   pub undone : (s : State) (r : Run) (c : ℕ) (shown : Nodes) (made back : Batch) (us vs ws : List Update) (b u : Update) → Kept s r c
-      → TakesBack s r c shown made back us vs ws b u → IsSound s shown made us vs
+      → TakesBack s r c shown made back us vs ws b u → IsInOrder s shown made us vs
       → tree_after s.tree (us ++ b ∷ (vs ++ u ∷ [])) ≡ fold (tree_after s.tree us) (bodies_after vs)
   undone s r c shown made back us vs ws b u kept h g =
       let t = tree_after s.tree us in

@@ -20,23 +20,19 @@ use Rattle.room_nodes.specs.Steps.{step, fold}
 use Rattle.room_nodes.proofs.EmptyTree.{formed-empty}
 use Rattle.room_nodes.proofs.Gets.{same}
 use Rattle.room_nodes.proofs.Steps.{formed-fold}
-use Rattle.room_steps.specs.Laws.{KeepsSound as StepsKeepSound, KeepsShallow as StepsKeepShallow}
+use Rattle.room_steps.proofs.Shallow.{keeps_shallow}
+use Rattle.room_steps.proofs.Sound.{keeps_sound}
 use Rattle.room_log.specs.Follows.{most}
 use Rattle.room_model.specs.History.{History}
 use Rattle.room_model.specs.Presence.{back_of}
 use Rattle.room_model.specs.Account.{Account, Batch, OpenBatch, Stage, Synced, issued, ends, last_clock, last_issued, rest_of, beyond, all_bodies, bodies_in, pending_bodies, shown, shown_over, most_bytes}
 use Rattle.room_model.specs.Calls.{op_change, entry_bodies, entry_presence, entry_reversal, tree_or_bare, issues_of, batch_of, presence_size}
 use Rattle.room_model.specs.Sound.{IsValidTree, AreValidBodies, IsValidPatch, AreValidChanges, HoldsOnly, RunsOn, AreValidBatches, AreOwn, ArePatches, MadeNothing, HasTree, IsSound}
-use Rattle.room_laws.proofs.ClockRuns.{ends-append, ends_beyond, runs_beyond}
+use Rattle.room_laws.proofs.Batches.{ends-append, ends_beyond, runs_beyond}
 use Rattle.room_laws.proofs.Open.{entry-append}
 use Rattle.room_laws.proofs.Patches.{valid_merged, valid_back}
 use Rattle.room_laws.proofs.Reversals.{EachValid, each_of, of_each, valid_append, valid_reverse, valid_step}
-
-some_is : {A : Type 0} (x y : A) → Some x ≡ Some y → x ≡ y
-some_is x y p = cc
-
-none_some : {A : Type 0} (x : A) → None ≡ Some x → ⊥
-none_some x p = cc
+use Rattle.room_laws.proofs.Facts.{some_is, none_some}
 
 -- batches
 
@@ -118,38 +114,37 @@ valid_empty = record {
   shallow = λ x n e. let h = bare_there x n e in ap (λ (m : Node). is_shallow_kind m.kind) (sym h.1);
 }
 
-module _ (sound : StepsKeepSound) (shallow : StepsKeepShallow) where
-  pub valid_fold : (t : Nodes) (bs : List Body) → IsValidTree t → AreValidBodies bs → IsValidTree (fold t bs)
-  valid_fold t bs h k = record {
-    formed = formed-fold t h.formed bs;
-    sound = sound.fold t bs h.formed h.sound k.sound;
-    shallow = shallow.fold t bs h.shallow k.shallow;
-  }
+pub valid_fold : (t : Nodes) (bs : List Body) → IsValidTree t → AreValidBodies bs → IsValidTree (fold t bs)
+valid_fold t bs h k = record {
+  formed = formed-fold t h.formed bs;
+  sound = keeps_sound.fold t bs h.formed h.sound k.sound;
+  shallow = keeps_shallow.fold t bs h.shallow k.shallow;
+}
 
-  pub pending_valid : (x : Account) → IsSound x → AreValidBodies (pending_bodies x)
-  pending_valid x h = valid_append (all_bodies (issued x)) (bodies_in x.batch) (all_valid (issued x) h.own.closed) h.own.bodies
+pub pending_valid : (x : Account) → IsSound x → AreValidBodies (pending_bodies x)
+pending_valid x h = valid_append (all_bodies (issued x)) (bodies_in x.batch) (all_valid (issued x) h.own.closed) h.own.bodies
 
-  shown_by : (x : Account) (o : Option Nodes) (t : Nodes) → IsSound x → HasTree x.stage (issued x) x.batch x.history o → shown_over x o ≡ Some t → IsValidTree t
-  shown_by x None t h k e = absurd (none_some t e)
-  shown_by x (Some u) t h k e = subst IsValidTree (some_is (fold u (pending_bodies x)) t e) (valid_fold u (pending_bodies x) k (pending_valid x h))
+shown_by : (x : Account) (o : Option Nodes) (t : Nodes) → IsSound x → HasTree x.stage (issued x) x.batch x.history o → shown_over x o ≡ Some t → IsValidTree t
+shown_by x None t h k e = absurd (none_some t e)
+shown_by x (Some u) t h k e = subst IsValidTree (some_is (fold u (pending_bodies x)) t e) (valid_fold u (pending_bodies x) k (pending_valid x h))
 
-  -- what it shows
-  pub shown_valid : (x : Account) (t : Nodes) → IsSound x → shown x ≡ Some t → IsValidTree t
-  shown_valid x t h e = shown_by x x.confirmed t h h.tree e
+-- what it shows
+pub shown_valid : (x : Account) (t : Nodes) → IsSound x → shown x ≡ Some t → IsValidTree t
+shown_valid x t h e = shown_by x x.confirmed t h h.tree e
 
-  or_bare : (x : Account) (o : Option Nodes) → shown x ≡ o → IsSound x → IsValidTree (tree_or_bare o)
-  or_bare x None e h = valid_empty
-  or_bare x (Some t) e h = shown_valid x t h e
+or_bare : (x : Account) (o : Option Nodes) → shown x ≡ o → IsSound x → IsValidTree (tree_or_bare o)
+or_bare x None e h = valid_empty
+or_bare x (Some t) e h = shown_valid x t h e
 
-  pub bare_valid : (x : Account) → IsSound x → IsValidTree (tree_or_bare (shown x))
-  bare_valid x h = or_bare x (shown x) refl h
+pub bare_valid : (x : Account) → IsSound x → IsValidTree (tree_or_bare (shown x))
+bare_valid x h = or_bare x (shown x) refl h
 
-  pub reversal_valid : (t : Nodes) (me : List (List ℕ × Value)) (cs : List Change) → IsValidTree t → IsValidPatch me → AreValidChanges cs → AreValidChanges (entry_reversal t me cs)
-  reversal_valid t me [] v m h = tt
-  reversal_valid t me (OpChange b ∷ cs) v m h =
-      changes_append (entry_reversal (step t b) me cs) (map op_change (reverse t b)) (reversal_valid (step t b) me cs (valid_step sound shallow t b v h.0) m h.1) (ops_by (reverse t b) (valid_reverse t v b h.0.0))
-  reversal_valid t me (PresenceChange p ∷ cs) v m h =
-      changes_append (entry_reversal t (merged me p) cs) (PresenceChange (back_of me p) ∷ []) (reversal_valid t (merged me p) cs v (valid_merged me p m h.0) h.1) (valid_back me p m h.0.sound, tt)
+pub reversal_valid : (t : Nodes) (me : List (List ℕ × Value)) (cs : List Change) → IsValidTree t → IsValidPatch me → AreValidChanges cs → AreValidChanges (entry_reversal t me cs)
+reversal_valid t me [] v m h = tt
+reversal_valid t me (OpChange b ∷ cs) v m h =
+    changes_append (entry_reversal (step t b) me cs) (map op_change (reverse t b)) (reversal_valid (step t b) me cs (valid_step t b v h.0) m h.1) (ops_by (reverse t b) (valid_reverse t v b h.0.0))
+reversal_valid t me (PresenceChange p ∷ cs) v m h =
+    changes_append (entry_reversal t (merged me p) cs) (PresenceChange (back_of me p) ∷ []) (reversal_valid t (merged me p) cs v (valid_merged me p m h.0) h.1) (valid_back me p m h.0.sound, tt)
 
 -- the own operations
 

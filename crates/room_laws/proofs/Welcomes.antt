@@ -22,6 +22,7 @@ use Rattle.room_laws.proofs.Served.{served, fed}
 use Rattle.room_laws.proofs.Sent.{present_said, present_left, present_closed}
 use Rattle.room_laws.proofs.Calm.{SaidTo, passes_said}
 use Rattle.room_laws.proofs.Stops.{own_same}
+use Rattle.room_laws.proofs.Facts.{some_is, none_some}
 
 -- sessions, after one more
 
@@ -54,12 +55,6 @@ slice_new (y ∷ ss) x = slice_new ss x
 pub silent_within : (a n : ℕ) (us : List Update) → n < a → Invariant.Within n us → Silent a us
 silent_within a n [] l w = tt
 silent_within a n (u ∷ us) l w = record { other = λ e. absurd (omega (arith, w.actor)); more = silent_within a n us l w.more }
-
-none_some : {A : Type 0} (x : A) → None ≡ Some x → ⊥
-none_some x e = cc
-
-some_is : {A : Type 0} (x y : A) → Some x ≡ Some y → x ≡ y
-some_is x y e = cc
 
 -- the connection that is welcomed
 module _ (s : State) (us : List Update) (ss ts : List Session) (given more : List (ℕ × Option ℕ)) (c : ℕ) (session : Option Resume) (here : Place) (q : List Down) (l l' : Link) (w : Resume) (users : List (ℕ × List ℕ)) where

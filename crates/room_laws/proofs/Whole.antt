@@ -20,6 +20,7 @@ use Rattle.room_laws.proofs.Stops.{keeps_fuse, keeps_stop, keeps_compact, keeps_
 use Rattle.room_laws.proofs.RunSteps.{updates_of-append}
 use Rattle.room_laws.proofs.Frame.{keeps_up}
 use Rattle.room_laws.proofs.Follows.{kept, shows}
+use Rattle.room_laws.proofs.Facts.{none_some}
 
 -- the invariant, as far as the trees of the log are read again
 abbrev pub Good : State → Run → Type 0
@@ -99,9 +100,6 @@ module _ (s : State) where
   pub keeps_all : (ls : List (ℕ × lines.Line)) (r : Run) → Good s r → Good s (run r ls)
   keeps_all [] r st = st
   keeps_all (l ∷ ls) r st = keeps_all ls (line r l.0 l.1) (keeps r l.0 l.1 st)
-
-none_some : {A : Type 0} (x : A) → None ≡ Some x → ⊥
-none_some x e = cc
 
 -- nobody is there yet; the tree's items are read again as it
 pub begins : (s : State) → tree_in (items_of s.tree) ≡ Some s.tree → Invariant.Inv s (opened s)

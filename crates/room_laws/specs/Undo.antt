@@ -11,7 +11,7 @@ use Rattle.room_model.specs.World.{step}
 use Rattle.room_model.specs.Run.{Run, run, line, opened, account, IsUndisturbed}
 use Rattle.room_laws.specs.Laws.{ReadsBack}
 use Rattle.room_laws.specs.Lines.{AreQuiet}
-use Rattle.room_laws.specs.Undoing.{IsSound, bodies_after}
+use Rattle.room_laws.specs.Undoing.{IsInOrder, bodies_after}
 
 -- the run before the batch, with its beginning, its lines, its end, the lines until its undoing, that, and the rest
 pub record Course : Type 0 where
@@ -69,5 +69,5 @@ pub record Lies (s : State) (r : Run) (c : ℕ) (t : Nodes) (made back : Batch) 
 -- then the tree after u is as if neither had been
 abbrev pub EachUndo : Type 0
 EachUndo = (s : State) (q : Course) (c : ℕ) (t : Nodes) (made back : Batch) (us vs ws : List Update) (b u : Update) → ReadsBack s (updates_of (whole s q c).log) → IsUndisturbed (whole s q c) c
-    → Goes s q c t made back → Lies s (whole s q c) c t made back us vs ws b u → IsSound s t made us vs
+    → Goes s q c t made back → Lies s (whole s q c) c t made back us vs ws b u → IsInOrder s t made us vs
     → tree_after s.tree (us ++ b ∷ (vs ++ u ∷ [])) ≡ fold (tree_after s.tree us) (bodies_after vs)

@@ -36,7 +36,7 @@ pub record TakesBack (s : State) (r : Run) (c : ℕ) (shown : Nodes) (made back 
   pub apart : IsApart (tree_after s.tree us) (bodies_after vs) made.bodies
 
 -- what undoing asks of the trees and operations: fields stand in byte order
-pub record IsSound (s : State) (shown : Nodes) (made : Batch) (us vs : List Update) : Type 0 where
+pub record IsInOrder (s : State) (shown : Nodes) (made : Batch) (us vs : List Update) : Type 0 where
   pub opening : IsFormed s.tree
   pub formed : IsFormed shown
   pub ordered : IsOrderedTree shown
@@ -47,5 +47,5 @@ pub record IsSound (s : State) (shown : Nodes) (made : Batch) (us vs : List Upda
 -- then the tree is as if neither of the two batches had been
 abbrev pub EachUndone : Type 0
 EachUndone = (s : State) (ls : List (ℕ × Line)) (c : ℕ) (shown : Nodes) (made back : Batch) (us vs ws : List Update) (b u : Update) → IsReadable s ls → IsUndisturbed (run (opened s) ls) c
-    → TakesBack s (run (opened s) ls) c shown made back us vs ws b u → IsSound s shown made us vs
+    → TakesBack s (run (opened s) ls) c shown made back us vs ws b u → IsInOrder s shown made us vs
     → tree_after s.tree (us ++ b ∷ (vs ++ u ∷ [])) ≡ fold (tree_after s.tree us) (bodies_after vs)

@@ -1,4 +1,5 @@
 //! Laws of a client by itself.
+ghost use Rattle.room_laws.specs.Accounts.{KeepsSound};
 ghost use Rattle.room_laws.specs.Back.{UndoesAlone};
 ghost use Rattle.room_laws.specs.Bounds.{HistoryBounded};
 ghost use Rattle.room_laws.specs.Clocks.{KeepsClocks};
@@ -24,4 +25,9 @@ pub fn keeps_open()
 /// changed what it shows.
 pub fn undoes_alone()
     ensures { UndoesAlone }
+{}
+
+/// An account is sound at first, and each call and each message of a server keeps it so.
+pub fn keeps_sound()
+    ensures { KeepsSound }
 {}

@@ -1,5 +1,5 @@
-use Rattle.room_laws.proofs.Whole.{each_once}
+use Rattle.room_laws.proofs.EveryRun.{every_once}
 use Rattle.room_laws.proofs.runs.each_once.Goals as goal
 
 pub returns : goal.returns
-returns c = each_once
+returns c = every_once

@@ -1,5 +1,5 @@
-use Rattle.room_laws.proofs.Refusals.{each_taken}
+use Rattle.room_laws.proofs.EveryRun.{every_taken}
 use Rattle.room_laws.proofs.runs.each_taken.Goals as goal
 
 pub returns : goal.returns
-returns c = each_taken
+returns c = every_taken
