@@ -6,13 +6,12 @@ use Rattle.std.proofs.lemmas.Bool.Decides.{nat_tests}
 use Rattle.room_nodes.specs.Shape.{Nodes}
 use Rattle.room_nodes.specs.declared.nodes.Body.{Body}
 use Rattle.room_nodes.specs.Steps.{fold}
-use Rattle.room_log.specs.Log.{State, Update, tree_after, last_after, ops_of, ops_from, bodies_of}
+use Rattle.room_log.specs.Log.{State, Update, tree_after, last_after, ops_of, ops_from}
 use Rattle.room_model.specs.Account.{Batch, beyond}
 use Rattle.room_model.specs.Comes.{told_by}
 use Rattle.room_model.specs.Sound.{RunsOn}
 use Rattle.room_laws.specs.Ledger.{Matches, Ledger, upto}
 use Rattle.room_laws.proofs.Batches.{upto_above}
-use Rattle.room_laws.proofs.Ops.{bodies_again}
 use Rattle.room_laws.proofs.Matches.{Matches-append, Matches-cut, left, last_after_is}
 
 pub tree_after-append : (t : Nodes) (us vs : List Update) → tree_after t (us ++ vs) ≡ tree_after (tree_after t us) vs

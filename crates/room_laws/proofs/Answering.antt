@@ -16,7 +16,6 @@ use Rattle.room_laws.proofs.OwnLines.{keeps_saying}
 use Rattle.room_laws.proofs.Stops.{keeps_stopping, own_same, keeps_settings}
 use Rattle.room_laws.proofs.Leaving.{keeps_leaving}
 use Rattle.room_laws.proofs.Acts.{pops}
-use Rattle.room_laws.proofs.Facts.{none_some}
 
 no_cons : {A : Type 0} (x : A) (xs : List A) → x ∷ xs ≡ [] → ⊥
 no_cons x xs e = cc

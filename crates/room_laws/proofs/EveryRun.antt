@@ -1,22 +1,14 @@
 -- The laws of every run, from the parts that they were shown from.
-use Rattle.std.proofs.Common.{◌≡◌, [], refl, arith}
-use Rattle.room_model.specs.Calls.{presence_size}
 use Rattle.room_items.proofs.Spells.{trees_again}
 use Rattle.room_steps.proofs.Undoing.{undo_restores}
-use Rattle.room_laws.specs.Accounts.{EmptyFits, KeepsSound}
+use Rattle.room_laws.specs.Accounts.{KeepsSound}
 use Rattle.room_laws.specs.Always.{AlwaysOnce, AlwaysServed, AlwaysShows, AlwaysTaken, AlwaysUndo, AlwaysUndone}
 use Rattle.room_laws.specs.Validity.{ReadableRun, SoundAccounts, ValidRun}
 use Rattle.room_laws.proofs.Always.{always_once, always_served, always_shows, always_taken, always_undo, always_undone}
+use Rattle.room_laws.proofs.EmptyPresence.{empty_fits}
 use Rattle.room_laws.proofs.SoundAccounts.{keeps_sound}
 use Rattle.room_laws.proofs.StateItems.{items_of_valid, trees_valid}
 use Rattle.room_laws.proofs.ValidRuns as valid
-
--- the frame of an empty presence
-empty_size : presence_size [] ≡ 49
-empty_size = refl
-
-empty_fits : EmptyFits
-empty_fits = omega (arith, empty_size)
 
 pub every_account : KeepsSound
 every_account = keeps_sound trees_valid empty_fits

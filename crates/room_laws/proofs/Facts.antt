@@ -1,5 +1,5 @@
 -- What equations between options, results and tests say.
-use Rattle.std.proofs.Common.{◌≡◌, ℕ, Bool, true, false, cond, ◌&&◌, List, Option, Some, None, refl, ap}
+use Rattle.std.proofs.Common.{◌≡◌, Bool, true, false, cond, ◌&&◌, Some, None}
 use Rattle.std.specs.Prelude.{Result, Ok, Err}
 
 pub some_is : {A : Type 0} (x y : A) → Some x ≡ Some y → x ≡ y

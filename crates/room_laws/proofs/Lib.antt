@@ -15,6 +15,7 @@ mod Dials
 mod Downs
 mod EditMakes
 mod Edits
+mod EmptyPresence
 mod EveryRun
 mod Facts
 mod Follows

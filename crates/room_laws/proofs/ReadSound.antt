@@ -1,7 +1,7 @@
 -- What was read of a frame may go up.
 use Rattle.std.proofs.Common.{List, [], ◌∷◌, Ok, Err, All}
 use Rattle.std.proofs.lemmas.List.Elements.{All-head, All-tail}
-use Rattle.room_msg.specs.Sound.{IsSoundClientMsg, IsShallowClientMsg, HasSoundClientContent, IsTextIfThere}
+use Rattle.room_msg.specs.Sound.{IsSoundClientMsg, IsShallowClientMsg}
 use Rattle.room_msg.specs.declared.messages.ClientMsg.{ClientMsg}
 use Rattle.room_msg.specs.declared.messages.ClientMsg.TheVariants as client
 use Rattle.room_msg.specs.declared.messages.ClientFrame.TheVariants.{Ping, Msgs}
@@ -18,9 +18,10 @@ message (client.Update os) s d = (s.content, d)
 
 messages : (ms : List ClientMsg) → All IsSoundClientMsg ms → All IsShallowClientMsg ms → AreValidClientMsgs ms
 messages [] s d = tt
-messages (m ∷ ms) s d =
-    (message m (All-head IsSoundClientMsg m ms s) (All-head IsShallowClientMsg m ms d),
-    messages ms (All-tail IsSoundClientMsg m ms s) (All-tail IsShallowClientMsg m ms d))
+messages (m ∷ ms) s d = (
+  message m (All-head IsSoundClientMsg m ms s) (All-head IsShallowClientMsg m ms d),
+  messages ms (All-tail IsSoundClientMsg m ms s) (All-tail IsShallowClientMsg m ms d),
+)
 
 pub read_sound : (u : Up) → IsReadSound u → IsSoundUp u
 read_sound (Err reason) h = tt

@@ -22,7 +22,7 @@ use Rattle.room_model.specs.Run.{seat_in, account}
 use Rattle.room_laws.specs.Accounts.{KeepsSound}
 use Rattle.room_laws.specs.Invariant.{conn_in}
 use Rattle.room_laws.proofs.ReadSound.{read_sound}
-use Rattle.room_laws.specs.Validity.{AreLimits, AreSoundDowns, AreSoundUps, IsSoundConn, IsSoundDown, IsSoundHost, IsSoundServer, IsSoundUp, IsSoundWorld, ItemsOfValid}
+use Rattle.room_laws.specs.Validity.{AreLimits, AreSoundDowns, AreSoundUps, IsSoundConn, IsSoundDown, IsSoundHost, IsSoundServer, IsSoundWorld, ItemsOfValid}
 use Rattle.room_laws.proofs.Maps.{conn_same, conn_other, emptied_at, get_none}
 use Rattle.room_laws.proofs.Calls.{seat_same, seat_other}
 use Rattle.room_laws.proofs.SoundMaps.{each_put}

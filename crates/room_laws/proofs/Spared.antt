@@ -28,7 +28,7 @@ use Rattle.room_laws.proofs.Frames.{joins, resumes, talks}
 use Rattle.room_laws.proofs.Serves.{ups_of}
 use Rattle.room_laws.proofs.OwnFrames.{serve_takes, outcome_of}
 use Rattle.room_laws.proofs.Whole.{stands}
-use Rattle.room_laws.proofs.Facts.{some_is, none_some, both}
+use Rattle.room_laws.proofs.Facts.{none_some, both}
 
 -- lists of sends
 

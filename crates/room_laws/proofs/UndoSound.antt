@@ -73,7 +73,7 @@ bodies_sound [] h = tt
 bodies_sound (u ∷ us) h = sound-append u.bodies (bodies_after us) h.0 (bodies_sound us h.1)
 
 pub undo_sound : (s : State) (es : List Entry) (t : Nodes) (made : Batch) (us vs ws : List Update) (b u : Update) → IsValidState s → IsValidLog s es
-    → updates_of es ≡ us ++ b ∷ (vs ++ u ∷ ws) → IsMade t made → undoing.IsSound s t made us vs
+    → updates_of es ≡ us ++ b ∷ (vs ++ u ∷ ws) → IsMade t made → undoing.IsInOrder s t made us vs
 undo_sound s es t made us vs ws b u h l e m = record {
   opening = h.formed;
   formed = m.formed;

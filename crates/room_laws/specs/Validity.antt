@@ -7,11 +7,9 @@ use Rattle.room_nodes.specs.Shallow.{AreShallowOps}
 use Rattle.room_nodes.specs.Shape.{Nodes}
 use Rattle.room_nodes.specs.Sound.{AreSoundOps}
 use Rattle.room_items.specs.Items.{items_of}
-use Rattle.room_msg.specs.Frame.{client_frame_in}
 use Rattle.room_msg.specs.Sound.{IsTextIfThere}
 use Rattle.room_msg.specs.declared.messages.ClientMsg.{ClientMsg}
 use Rattle.room_msg.specs.declared.messages.ClientMsg.TheVariants as client
-use Rattle.room_msg.specs.declared.messages.ClientFrame.{ClientFrame}
 use Rattle.room_msg.specs.declared.messages.ClientFrame.TheVariants.{Ping, Msgs}
 use Rattle.room_log.specs.Log.{State}
 use Rattle.room_log.specs.Follows.{IsKey, IsValidLog, IsValidState, most, most_actor}
