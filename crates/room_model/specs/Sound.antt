@@ -181,7 +181,7 @@ IsSoundEdit (edits.Move x f t) = IsNodeInRange x
 IsSoundEdit (edits.Take x n) = IsNodeInRange x
 IsSoundEdit (edits.Clear x) = IsNodeInRange x
 
--- what is read of a frame is sound and no deeper than a frame can be: so says every reader of what it reads
+-- what is read of a frame is sound, as its reader says, and no deeper than the levels of a frame make it
 abbrev pub IsReadSound : Up → Type 0
 IsReadSound (Err reason) = ⊤
 IsReadSound (Ok f) = IsSoundClientFrame f × IsShallowClientFrame f
