@@ -78,16 +78,6 @@ all_head P x xs h = h 0 x (omega arith)
 all_tail : {A : Type 0} (P : A → Type 0) (x : A) (xs : List A) → All P (x ∷ xs) → All P xs
 all_tail P x xs h = λ k d below. h (suc k) d (omega (arith, below))
 
-all_cons : {A : Type 0} (P : A → Type 0) (x : A) (xs : List A) → P x → All P xs → All P (x ∷ xs)
-all_cons P x xs p h zero d below = p
-all_cons P x xs p h (suc k) d below = h k d (omega (arith, below))
-
-pub sendable_none : All IsSendable []
-sendable_none k d below = absurd (omega (arith, below))
-
-pub sendable_more : (m : ClientMsg) (ms : List ClientMsg) → IsSendable m → All IsSendable ms → All IsSendable (m ∷ ms)
-sendable_more m ms = all_cons IsSendable m ms
-
 ops_known : (os : List Op) → All IsOpInRange os → AreOpsKnown os
 ops_known [] h = refl
 ops_known (o ∷ os) h = known_more o os (ops_again o (all_head IsOpInRange o os h)) (ops_known os (all_tail IsOpInRange o os h))

@@ -17,7 +17,7 @@ use Rattle.room_wire.proofs.Sound.{ops_sound, ops_shallow}
 use Rattle.room_wire.specs.Laws.{IsBodyInRange, IsOpInRange}
 use Rattle.room_wire.specs.Wire.{op_in}
 use Rattle.room_wire.specs.declared.fault.Field.{Field as OpField}
-use Rattle.room_msg.specs.Laws.{IsTarget}
+use Rattle.room_msg.specs.Laws.{IsTarget, IsSendable}
 use Rattle.room_msg.specs.Msg.{at, maybe_at, as_target, as_resume, as_name, as_client_code, op_at, ops_at, reason_of, hello_in, presence_in, broadcast_in, update_in, coded_client_in, client_in}
 use Rattle.room_msg.specs.Sound.{IsTextIfThere, IsSoundClientMsg, IsShallowClientMsg, IsSoundClientFrame, IsShallowClientFrame, AreSoundClientMsgs, ClientMsgsAreSound, ClientMsgsAreShallow}
 use Rattle.room_msg.specs.declared.codes.ClientCode.{ClientCode}
@@ -153,6 +153,9 @@ client_sound v f h json =
     gone_on _ (ok_or (as_list v) NoList) _ f h (λ vs is h.
     gone_on _ (each_in client_in vs) _ f h (λ ms read h.
     subst IsSoundClientFrame {x = frame.Msgs ms} (ok_inj h) (each_sound vs ms read (subst IsJson (list_is v vs (was_there (as_list v) NoList vs is)) json))))
+
+pub all_sendable : (ms : List ClientMsg) → AreSoundClientMsgs ms → All IsSendable ms
+all_sendable ms h = λ k d below. (h k d below).sendable
 
 -- and how deep
 

@@ -8,7 +8,7 @@ use Rattle.room_json.specs.Profile.{IsJson, AreJson}
 use Rattle.room_json.specs.Value.{Value, nothing, flag, whole, text, list, members, Values, values_of, values_list, fields_of, depth, values_depth, as_list, as_members, as_flag}
 use Rattle.room_json.specs.View.{json_of}
 use Rattle.room_wire.proofs.Fields.{Has, ok_inj, gone_on, has_members, has_list, has_value, has_json, has_depth, sound_members, values_of-values_list}
-use Rattle.room_msg.specs.Laws.{IsTarget, IsActor, IsKey}
+use Rattle.room_msg.specs.Laws.{IsTarget, IsServed, IsActor, IsKey}
 use Rattle.room_msg.specs.Msg.{at, maybe_at, as_target, as_actor, as_maker, as_key, as_count, as_server_code, ops_at, or_false, seen_in, joined_in, left_in, heard_in, room_in, state_in, updated_in, coded_server_in, server_in}
 use Rattle.room_msg.specs.Sound.{IsSoundServerMsg, IsShallowServerMsg, AreSoundServerMsgs, ServerMsgsAreSound, ServerMsgsAreShallow}
 use Rattle.room_msg.specs.Users.{as_users}
@@ -143,6 +143,9 @@ server_sound (list vs) ms h json = each_sound (values_list vs) ms h (subst AreJs
 server_sound (members fs) ms h json =
     gone_on _ (server_in (members fs)) _ ms h (λ m is h.
     subst AreSoundServerMsgs {x = m ∷ []} (ok_inj h) (All-cons IsSoundServerMsg m [] (sound_from (members fs) m (msg_from (members fs) m is) json) (none _)))
+
+pub one_served : (m : ServerMsg) → AreSoundServerMsgs (m ∷ []) → IsServed m
+one_served m h = (h 0 m (omega arith)).served
 
 list_depth : (vs : Values) → depth (list vs) ≤ 60 → values_depth (values_of (values_list vs)) ≤ 59
 list_depth vs small = let e : values_depth (values_of (values_list vs)) ≡ values_depth vs = ap values_depth (values_of-values_list vs) in omega (arith, e, small)

@@ -14,6 +14,8 @@ use Rattle.room_msg.specs.declared.messages.ServerMsg.{ServerMsg}
 use Rattle.room_msg.specs.declared.messages.ServerMsg.TheVariants as server
 use Rattle.room_msg.specs.declared.messages.ClientFrame.{ClientFrame}
 use Rattle.room_msg.specs.declared.messages.ClientFrame.TheVariants as to_server
+use Rattle.room_msg.specs.declared.messages.ServerFrame.{ServerFrame}
+use Rattle.room_msg.specs.declared.messages.ServerFrame.TheVariants as to_client
 
 -- texts in UTF-8
 
@@ -86,6 +88,10 @@ IsSoundClientFrame (to_server.Msgs ms) = AreSoundClientMsgs ms
 abbrev pub IsShallowClientFrame : ClientFrame → Type 0
 IsShallowClientFrame to_server.Ping = ⊤
 IsShallowClientFrame (to_server.Msgs ms) = All IsShallowClientMsg ms
+
+abbrev pub IsSoundServerFrame : ServerFrame → Type 0
+IsSoundServerFrame to_client.Pong = ⊤
+IsSoundServerFrame (to_client.Msgs ms) = AreSoundServerMsgs ms
 
 -- messages that stand in a value of the profile are sound, and shallow where the value is
 

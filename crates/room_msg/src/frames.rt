@@ -2,12 +2,13 @@ ghost use Rattle.std.specs.Prelude.{◌≡◌, IfOk, IfErr, Ok};
 ghost use Rattle.room_json.specs.View.{json_of};
 ghost use Rattle.room_msg.specs.Frame.{frame_value_in, client_msgs_in, client_frame_in, server_frame_in};
 ghost use Rattle.room_msg.specs.Msg.{IsFaultOf};
+ghost use Rattle.room_msg.specs.Sound.{IsSoundClientFrame, IsSoundServerFrame};
 
 use crate::messages::{ClientFrame, ServerFrame};
 use crate::reading::read_msgs;
 use crate::reason::{MsgFault, Reason};
 use crate::receiving::read_server_msgs;
-use room_json::{Json, JsonFault, Text, read};
+use room_json::{Json, JsonFault, Sound, Text, read};
 use std::alloc::Global;
 
 fn read_text(alloc: Global, text: &Text) -> Result<Json, MsgFault>
@@ -34,8 +35,10 @@ fn read_list(alloc: Global, v: &Json) -> Result<ClientFrame, MsgFault>
 }
 
 /// What a client's frame holds, or the first reason why it is refused.
+#[tactic(auto, using(crate::proofs::SoundClient::client_sound))]
 pub fn read_client(alloc: Global, text: &Text) -> Result<ClientFrame, MsgFault>
     ensures ok { IfOk result (λ f. client_frame_in text.now ≡ Ok f) }
+    ensures sound { IfOk result IsSoundClientFrame }
     ensures err { IfErr result (IsFaultOf (client_frame_in text.now)) }
 {
     if text.len() > 1048576 {
@@ -45,12 +48,16 @@ pub fn read_client(alloc: Global, text: &Text) -> Result<ClientFrame, MsgFault>
         return Ok(ClientFrame::Ping);
     }
     let value = read_text(alloc, text)?;
-    read_list(alloc, &value)
+    let frame = read_list(alloc, &value)?;
+    value.sound();
+    Ok(frame)
 }
 
 /// What a server's frame holds, or the first reason why it is refused.
+#[tactic(auto, using(crate::proofs::SoundServer::server_sound))]
 pub fn read_server(alloc: Global, text: &Text) -> Result<ServerFrame, MsgFault>
     ensures ok { IfOk result (λ f. server_frame_in text.now ≡ Ok f) }
+    ensures sound { IfOk result IsSoundServerFrame }
     ensures err { IfErr result (IsFaultOf (server_frame_in text.now)) }
 {
     if text.as_str() == "pong" {
@@ -58,5 +65,6 @@ pub fn read_server(alloc: Global, text: &Text) -> Result<ServerFrame, MsgFault>
     }
     let value = read_text(alloc, text)?;
     let msgs = read_server_msgs(alloc, &value)?;
+    value.sound();
     Ok(ServerFrame::Msgs(msgs))
 }

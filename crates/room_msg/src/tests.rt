@@ -1,87 +1,10 @@
-ghost use Rattle.std.specs.Prelude.{◌≡◌, true, All};
-ghost use Rattle.room_msg.specs.Laws.{IsSendable, IsServed, IsTarget};
-ghost use Rattle.room_msg.specs.Users.{IsRising};
+ghost use Rattle.std.specs.Prelude.{All, IfOk};
+ghost use Rattle.room_msg.specs.Laws.{IsSendable, IsServed};
 
 use super::*;
 use room_json::{Copied, NoMemory, Text};
 use std::alloc::Global;
 use std::test::Fail;
-
-fn is_target(target: Option<i64>) -> bool
-    ensures { result ≡ true → IsTarget target }
-{
-    match target {
-        Some(target) => target >= -1 && target <= 4294967295,
-        None => true,
-    }
-}
-
-fn is_hello(hello: &Hello) -> bool
-    ensures { result ≡ true → IsSendable (ClientMsg.Hello hello.now) }
-{
-    let known = match hello.resume {
-        Some(resume) => resume.actor >= 1,
-        None => true,
-    };
-    let short = match &hello.name {
-        Some(name) => name.len() <= 64,
-        None => true,
-    };
-    known && short
-}
-
-fn is_sendable(msg: &ClientMsg) -> bool
-    ensures { result ≡ true → IsSendable msg.now }
-{
-    match msg {
-        ClientMsg::Hello(hello) => is_hello(hello),
-        ClientMsg::Presence { target, .. } => is_target(*target),
-        _ => true,
-    }
-}
-
-#[tactic(auto, using(crate::proofs::Framed::sendable_none, crate::proofs::Framed::sendable_more))]
-fn are_sendable(msgs: &[ClientMsg]) -> bool
-    ensures { result ≡ true → All IsSendable msgs.now }
-{
-    let mut left = msgs;
-    while let [msg, rest @ ..] = left {
-        if !is_sendable(msg) {
-            return false;
-        }
-        left = rest;
-    }
-    true
-}
-
-fn are_rising(users: &[(u32, Text)]) -> bool
-    ensures { result ≡ true → IsRising users.now }
-{
-    let mut left = users;
-    while let [user, rest @ ..] = left {
-        if let [next, ..] = rest {
-            if user.0 >= next.0 {
-                return false;
-            }
-        }
-        left = rest;
-    }
-    true
-}
-
-fn is_served(msg: &ServerMsg) -> bool
-    ensures { result ≡ true → IsServed msg.now }
-{
-    match msg {
-        ServerMsg::Presence { target, .. } => is_target(*target),
-        ServerMsg::RoomState { actor, users, .. } => *actor >= 1 && are_rising(users.as_slice()),
-        ServerMsg::State { seq, last, .. } => {
-            *seq <= 9007199254740991 && *last <= 9007199254740991
-        }
-        ServerMsg::Update { seq, .. } => *seq <= 9007199254740991,
-        _ => true,
-    }
-}
 
 /// The reason of a refusal in words.
 fn words(alloc: Global, reason: &Reason) -> Result<Text, NoMemory> {
@@ -290,6 +213,16 @@ fn limits_of_frames(rt: HostRuntime) -> Result<(), Fail> {
     Ok(())
 }
 
+#[tactic(auto, using(crate::proofs::SoundClient::all_sendable))]
+fn client_msgs(alloc: Global, frame: &Text) -> Result<ClientMsgs, Fail>
+    ensures { IfOk result (All IsSendable) }
+{
+    match read_client(alloc, frame) {
+        Ok(ClientFrame::Msgs(msgs)) => Ok(msgs),
+        _ => Err("refused".into()),
+    }
+}
+
 /// Each message of a client is read and written again.
 #[test]
 fn clients_write(rt: HostRuntime) -> Result<(), Fail> {
@@ -298,13 +231,21 @@ fn clients_write(rt: HostRuntime) -> Result<(), Fail> {
         alloc,
         r#"[{"name":"Ann","pass":"k","resume":{"actor":1,"key":"0123456789abcdef"},"room":"r","type":1},{"data":{"x":1},"targetActor":-1,"type":100},{"event":null,"type":103},{"type":200},{"ops":[{"id":"1:2","opId":"1:1","type":5}],"type":201}]"#,
     )?;
-    let Ok(ClientFrame::Msgs(msgs)) = read_client(alloc, &frame) else {
-        return Err("refused".into());
-    };
-    let msgs = msgs.copy(alloc)?;
-    assert!(rt; are_sendable(msgs.as_slice()));
+    let msgs = client_msgs(alloc, &frame)?.copy(alloc)?;
     assert!(rt; write_client(alloc, &msgs)? == frame);
     Ok(())
+}
+
+/// The text of the one message of a frame.
+#[tactic(auto, using(crate::proofs::SoundServer::one_served))]
+fn server_again(alloc: Global, frame: &Text) -> Result<Text, Fail> {
+    let Ok(ServerFrame::Msgs(msgs)) = read_server(alloc, frame) else {
+        return Err("refused".into());
+    };
+    match msgs.as_slice() {
+        [msg] => Ok(write_server(alloc, msg)?),
+        _ => Err("not one".into()),
+    }
 }
 
 /// Each message of the server is read and written again.
@@ -321,15 +262,7 @@ fn the_server_writes(rt: HostRuntime) -> Result<(), Fail> {
         r#"{"ops":[{"id":"1:2","opId":"1:1","type":5}],"seq":3,"type":201}"#,
     ] {
         let text = Text::from_str(alloc, frame)?;
-        let Ok(ServerFrame::Msgs(msgs)) = read_server(alloc, &text) else {
-            return Err("refused".into());
-        };
-        let msgs = msgs.copy(alloc)?;
-        let [msg] = msgs.as_slice() else {
-            return Err("not one".into());
-        };
-        assert!(rt; is_served(msg));
-        assert_eq!(rt; write_server(alloc, msg)?.as_str(), frame);
+        assert_eq!(rt; server_again(alloc, &text)?.as_str(), frame);
     }
     Ok(())
 }

@@ -1,5 +1,6 @@
 ghost use Rattle.std.specs.Prelude.{◌≡◌, IfOk, IfErr, Ok};
 ghost use Rattle.room_json.specs.View.{json_of};
+ghost use Rattle.room_nodes.specs.Sound.{IsSoundOp};
 ghost use Rattle.room_wire.specs.Wire.{update_in, delete_in, create_in, set_key_in, delete_key_in, made_in, op_in, IsFaultOf};
 
 use crate::access::{
@@ -7,12 +8,22 @@ use crate::access::{
 };
 use crate::code::{Code, Shape};
 use crate::fault::{Field, WireFault};
-use room_json::Json;
+use room_json::{Json, Sound};
 use room_nodes::{Body, Kind, Op};
 use std::alloc::Global;
 
 /// The operation that a value spells, or the first of its fields that is missing or wrong.
 pub fn read_op(alloc: Global, v: &Json) -> Result<Op, WireFault>
+    ensures ok { IfOk result (λ op. op_in (json_of v.now) ≡ Ok op) }
+    ensures sound { IfOk result IsSoundOp }
+    ensures err { IfErr result (IsFaultOf (op_in (json_of v.now))) }
+{
+    let op = read_coded(alloc, v)?;
+    op.sound();
+    Ok(op)
+}
+
+fn read_coded(alloc: Global, v: &Json) -> Result<Op, WireFault>
     ensures ok { IfOk result (λ op. op_in (json_of v.now) ≡ Ok op) }
     ensures err { IfErr result (IsFaultOf (op_in (json_of v.now))) }
 {
