@@ -1,0 +1,5 @@
+mod Climbing
+mod Heads
+mod Levels
+mod Removals
+mod Rising

@@ -1,0 +1,4 @@
+pub mod Meeting
+pub mod Parts
+pub mod Rising
+pub mod Spots
