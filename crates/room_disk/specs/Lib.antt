@@ -5,4 +5,5 @@ pub mod Changes
 pub mod Parts
 pub mod Files
 pub mod Record
-pub mod Lifted
+pub mod Failing
+pub mod MemDisk

@@ -1,8 +1,7 @@
 //! The calls of a disk in memory, some of which fail.
-ghost use Rattle.std.specs.Prelude.{◌≡◌, ◌≤◌, true};
-ghost use Rattle.room_edge.specs.Causes.{Rose};
-ghost use Rattle.room_edge.specs.Memory.{is_among, no_calls, is_to_fail, called};
-ghost use Rattle.room_disk.specs.Lifted.{lifted};
+ghost use Rattle.std.specs.Prelude.{◌≡◌};
+ghost use Rattle.room_edge.specs.Memory.{is_among, no_calls, is_to_fail};
+ghost use Rattle.room_disk.specs.Failing.{lifted, Counts};
 
 use std::marker::Model;
 
@@ -36,9 +35,7 @@ impl Calls {
     /// Counts a call, and answers whether it is to fail.
     pub(crate) fn begin(&mut self) -> bool
         ensures answer { result ≡ is_to_fail self.old }
-        ensures counted { self.new ≡ called self.old }
-        ensures later { self.old.faults ≤ self.new.faults }
-        ensures rose { result ≡ true → Rose self.old.faults self.new.faults }
+        ensures counted { Counts self.old self.new }
     {
         self.calls = self.calls.saturating_add(1);
         if is_among(self.fails.as_slice(), self.calls) {

@@ -1,9 +1,10 @@
 //! A disk in memory, some of whose calls fail.
-ghost use Rattle.std.specs.Prelude.{◌≡◌, [], ℕ, List, true, false, length};
-ghost use Rattle.room_edge.specs.Memory.{no_calls};
-ghost use Rattle.room_disk.specs.Lifted.{lifted};
+ghost use Rattle.std.specs.Prelude.{◌≡◌, [], ℕ, List, true, false, length, take, drop, ◌<◌, ◌≤◌, ◌+◌, ◌^◌, IfOk, OnOk, IfErr};
+ghost use Rattle.room_edge.specs.Memory.{no_calls, is_to_fail};
+ghost use Rattle.room_disk.specs.Failing.{lifted, Counts};
+ghost use Rattle.room_disk.specs.Model.{written, WrittenInPart, CutInPart, Same, Only};
 ghost use Rattle.room_disk.specs.Files.{small_seen};
-ghost use Rattle.room_disk.specs.Record.{seen_of, images_of, Extends, extends_same, extends_then, seen_may_be_left};
+ghost use Rattle.room_disk.specs.Record.{seen_of, images_of, StepsTo, Extends, extends_same, extends_then, seen_may_be_left};
 
 use crate::change::FileChange;
 use crate::disk::{Disk, DiskFault};
@@ -19,12 +20,14 @@ pub struct MemDisk {
 }
 
 impl MemDisk {
+    ghost use Rattle.room_disk.specs.MemDisk.{record_of, calls_of};
+
     /// A disk of empty files; a number k in `fails` lets the k-th call fail, counted from 1.
     pub fn new(alloc: Global, fails: Vec<u64>) -> MemDisk
         ensures empty { (f : ℕ) → ⟦<MemDisk as Disk>⟧.seen result f ≡ [] }
         ensures images { (f : ℕ) (c : List ℕ) → ⟦<MemDisk as Disk>⟧.images result 0 f c → c ≡ [] }
         ensures moment { ⟦<MemDisk as Disk>⟧.moment result ≡ 0 }
-        ensures calls { result.calls ≡ no_calls fails.items }
+        ensures calls { calls_of result ≡ no_calls fails.items }
     {
         MemDisk {
             medium: Medium::new(alloc),
@@ -34,14 +37,16 @@ impl MemDisk {
 
     /// From now on no call fails.
     pub fn lift(&mut self)
-        ensures calls { self.new.calls ≡ lifted self.old.calls }
-        ensures same { self.new.medium ≡ self.old.medium }
+        ensures calls { calls_of self.new ≡ lifted (calls_of self.old) }
+        ensures same { record_of self.new ≡ record_of self.old }
     {
         self.calls.lift();
     }
 }
 
 impl Disk for MemDisk {
+    ghost use Rattle.room_disk.specs.MemDisk.{record_of, calls_of};
+
     ghost tells = { true };
 
     ghost may_run_out = { true };
@@ -74,14 +79,30 @@ impl Disk for MemDisk {
 
     ghost left_is_image = { λ d how f told. seen_may_be_left d.medium.entries.items f };
 
-    fn len(&mut self, file: u32) -> Result<u64, DiskFault> {
+    fn len(&mut self, file: u32) -> Result<u64, DiskFault>
+        ensures length { IfOk result (λ n. n ≡ length (seen_of (record_of self.old) file)) }
+        ensures bound { IfOk result (λ n. n < 2 ^ 62) }
+        ensures same { record_of self.new ≡ record_of self.old }
+        ensures calls { Counts (calls_of self.old) (calls_of self.new) }
+        ensures ok { OnOk result (is_to_fail (calls_of self.old) ≡ false) }
+        ensures failed { IfErr result (λ e. e ≡ DiskFault.Failed → is_to_fail (calls_of self.old) ≡ true) }
+        ensures sure { IfErr result (λ e. e ≡ DiskFault.Failed) }
+    {
         if self.calls.begin() {
             return Err(DiskFault::Failed);
         }
         Ok(self.medium.len(file))
     }
 
-    fn read(&mut self, file: u32, at: u64, into: &mut [u8]) -> Result<(), DiskFault> {
+    fn read(&mut self, file: u32, at: u64, into: &mut [u8]) -> Result<(), DiskFault>
+        requires { at + length into.old ≤ length (seen_of (record_of self.old) file) }
+        ensures bytes { OnOk result (into.new ≡ take (length into.old) (drop at (seen_of (record_of self.old) file))) }
+        ensures same { record_of self.new ≡ record_of self.old }
+        ensures calls { Counts (calls_of self.old) (calls_of self.new) }
+        ensures ok { OnOk result (is_to_fail (calls_of self.old) ≡ false) }
+        ensures failed { IfErr result (λ e. e ≡ DiskFault.Failed → is_to_fail (calls_of self.old) ≡ true) }
+        ensures sure { IfErr result (λ e. e ≡ DiskFault.Failed) }
+    {
         if self.calls.begin() {
             return Err(DiskFault::Failed);
         }
@@ -89,7 +110,18 @@ impl Disk for MemDisk {
         Ok(())
     }
 
-    fn write_at(&mut self, file: u32, at: u64, bytes: &[u8]) -> Result<(), DiskFault> {
+    fn write_at(&mut self, file: u32, at: u64, bytes: &[u8]) -> Result<(), DiskFault>
+        requires { at ≤ length (seen_of (record_of self.old) file) }
+        ensures written { OnOk result (seen_of (record_of self.new) file ≡ written at bytes.now (seen_of (record_of self.old) file)) }
+        ensures counted { OnOk result (length (record_of self.new) ≡ length (record_of self.old) + 1) }
+        ensures steps { StepsTo file (WrittenInPart at (length bytes.now)) (record_of self.old) (record_of self.new) }
+        ensures bound { OnOk result (at + length bytes.now < 2 ^ 62) }
+        ensures full { 2 ^ 62 ≤ at + length bytes.now → record_of self.new ≡ record_of self.old }
+        ensures grown { Extends (record_of self.old) (record_of self.new) }
+        ensures calls { Counts (calls_of self.old) (calls_of self.new) }
+        ensures ok { OnOk result (is_to_fail (calls_of self.old) ≡ false) }
+        ensures failed { IfErr result (λ e. e ≡ DiskFault.Failed → is_to_fail (calls_of self.old) ≡ true) }
+    {
         if self.calls.begin() {
             self.medium.refuse_write(file, at, bytes)?;
             return Err(DiskFault::Failed);
@@ -97,7 +129,16 @@ impl Disk for MemDisk {
         self.medium.write(file, at, bytes)
     }
 
-    fn cut(&mut self, file: u32, len: u64) -> Result<(), DiskFault> {
+    fn cut(&mut self, file: u32, len: u64) -> Result<(), DiskFault>
+        requires { len ≤ length (seen_of (record_of self.old) file) }
+        ensures cut { OnOk result (seen_of (record_of self.new) file ≡ take len (seen_of (record_of self.old) file)) }
+        ensures counted { OnOk result (length (record_of self.new) ≡ length (record_of self.old) + 1) }
+        ensures steps { StepsTo file (CutInPart len) (record_of self.old) (record_of self.new) }
+        ensures grown { Extends (record_of self.old) (record_of self.new) }
+        ensures calls { Counts (calls_of self.old) (calls_of self.new) }
+        ensures ok { OnOk result (is_to_fail (calls_of self.old) ≡ false) }
+        ensures failed { IfErr result (λ e. e ≡ DiskFault.Failed → is_to_fail (calls_of self.old) ≡ true) }
+    {
         if self.calls.begin() {
             self.medium.refuse(file, FileChange::Cut(len))?;
             return Err(DiskFault::Failed);
@@ -105,7 +146,15 @@ impl Disk for MemDisk {
         self.medium.change(file, FileChange::Cut(len))
     }
 
-    fn sync(&mut self, file: u32) -> Result<(), DiskFault> {
+    fn sync(&mut self, file: u32) -> Result<(), DiskFault>
+        ensures durable { OnOk result (Only (seen_of (record_of self.old) file) (images_of (record_of self.new) (length (record_of self.new)) file)) }
+        ensures counted { OnOk result (length (record_of self.new) ≡ length (record_of self.old) + 1) }
+        ensures steps { StepsTo file Same (record_of self.old) (record_of self.new) }
+        ensures grown { Extends (record_of self.old) (record_of self.new) }
+        ensures calls { Counts (calls_of self.old) (calls_of self.new) }
+        ensures ok { OnOk result (is_to_fail (calls_of self.old) ≡ false) }
+        ensures failed { IfErr result (λ e. e ≡ DiskFault.Failed → is_to_fail (calls_of self.old) ≡ true) }
+    {
         if self.calls.begin() {
             return Err(DiskFault::Failed);
         }
