@@ -1,32 +1,23 @@
 -- One call more in a record.
-use Rattle.std.proofs.Common.{◌≡◌, ◌≢◌, ◌⊎◌, ⊎_elim, ℕ, ◌+◌, ◌==◌, ◌≤◌, ◌<◌, ◌^◌, List, [], ◌∷◌, ◌++◌, length, take, reverse, cond, true, false, Bool, refl, sym, ◌∙◌, ap, subst, arith, length-append}
+use Rattle.std.proofs.Common.{◌≡◌, ◌≢◌, ◌⊎◌, ⊎_elim, ℕ, ◌==◌, ◌≤◌, ◌<◌, ◌^◌, List, [], ◌∷◌, ◌++◌, length, take, reverse, cond, true, false, Bool, refl, sym, ◌∙◌, ap, subst, arith, length-append}
 use Rattle.std.proofs.Math.Seq.{take-length}
 use Rattle.std.proofs.lemmas.List.{reverse-append, take-append-le}
+use Rattle.std.proofs.lemmas.Bool.{eq-eqb, eqb-true}
 use Rattle.std.proofs.lemmas.Bool.Decides.{nat_tests}
-use Rattle.room_disk.specs.Model.{Images, Follows, Same, StepsBetween}
+use Rattle.room_disk.specs.Model.{Follows, Same}
 use Rattle.room_disk.specs.Changes.{changed, ChangedInPart, place, reach}
-use Rattle.room_disk.specs.Record.{done_by, content_of, Chosen, LeftBy, MayLeave, seen_of, images_of, StepsTo, seen_may_be_left}
+use Rattle.room_disk.specs.Record.{done_by, content_of, LeftBy, MayLeave, seen_of, images_of, StepsTo, seen_may_be_left}
 use Rattle.room_disk.specs.Parts.{change_done, change_undone, changed_below}
 use Rattle.room_disk.specs.declared.change.FileChange.{FileChange}
 use Rattle.room_disk.specs.declared.medium.Entry.{Entry}
 use Rattle.room_disk.proofs.Moments.{keeps_same}
+use Rattle.room_disk.proofs.Choices.{chosen, passed_over}
 
 pub same_test : (a b : ℕ) → a ≡ b → (a == b) ≡ true
-same_test a b is = grind (arith, nat_tests)
+same_test a b is = eq-eqb a b is
 
 pub other_test : (a b : ℕ) → a ≢ b → (a == b) ≡ false
 other_test a b is = grind (arith, nat_tests)
-
-pub test_same : (a b : ℕ) → (a == b) ≡ true → a ≡ b
-test_same a b is = grind (arith, nat_tests)
-
-pub chosen : (b : Bool) (A B : Type 0) → b ≡ true → Chosen b A B → A
-chosen true A B is a = a
-chosen false A B is b = absurd (cc (is))
-
-pub passed_over : (b : Bool) (A B : Type 0) → b ≡ false → Chosen b A B → B
-passed_over false A B is b = b
-passed_over true A B is a = absurd (cc (is))
 
 abbrev Step : Type 1
 Step = List ℕ → List ℕ → Type 0
@@ -100,7 +91,7 @@ small_by false y old within end small = small
 pub small_to : (file : ℕ) (y : FileChange) (old new : ℕ → List ℕ) → place y ≤ length (old file) → reach y < 2 ^ 62 → ((f : ℕ) → new f ≡ cond (file == f) (changed y (old f)) (old f))
     → ((f : ℕ) → length (old f) < 2 ^ 62) → (f : ℕ) → length (new f) < 2 ^ 62
 small_to file y old new within end step small f = subst (λ (l : List ℕ). length l < 2 ^ 62) (sym (step f))
-    (small_by (file == f) y (old f) (λ is. subst (λ (n : ℕ). place y ≤ length (old n)) (test_same file f is) within) end (small f))
+    (small_by (file == f) y (old f) (λ is. subst (λ (n : ℕ). place y ≤ length (old n)) (eqb-true file f is) within) end (small f))
 
 module _ (xs : List Entry) (file : ℕ) where
   -- what the content is from

@@ -1,9 +1,8 @@
--- Changes of files, the newest first where a list is named `older` or reversed.
-use Rattle.std.specs.Prelude.{◌≡◌, ◌≤◌, ◌<◌, ◌^◌, ℕ, ◌+◌, Bool, true, false, List, [], ◌∷◌, length, take, cond, ◌==◌}
-use Rattle.room_disk.specs.Model.{written, WrittenInPart, CutInPart, Follows}
+-- Changes of files.
+use Rattle.std.specs.Prelude.{ℕ, ◌+◌, List, length, take}
+use Rattle.room_disk.specs.Model.{written, WrittenInPart, CutInPart}
 use Rattle.room_disk.specs.declared.change.FileChange.{FileChange}
 use Rattle.room_disk.specs.declared.change.FileChange.TheVariants.{Write, Cut}
-use Rattle.room_disk.specs.declared.change.FileCall.{FileCall}
 
 abbrev pub changed : FileChange → List ℕ → List ℕ
 changed (Write at bytes) old = written at bytes old

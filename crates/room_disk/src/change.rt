@@ -1,7 +1,7 @@
 //! What a write or a cut does to a file.
-ghost use Rattle.std.specs.Prelude.{◌≡◌, ◌≤◌, ◌+◌, ◌^◌, ◌↔◌, IsTrue, IfOk, IfErr, OnOk, OnErr, length};
+ghost use Rattle.std.specs.Prelude.{◌≡◌, ◌≤◌, ◌<◌, ℕ, List, ◌+◌, ◌^◌, ◌↔◌, IsTrue, IfOk, IfErr, OnOk, OnErr, length};
 ghost use Rattle.room_disk.specs.Model.{written};
-ghost use Rattle.room_disk.specs.Changes.{changed};
+ghost use Rattle.room_disk.specs.Changes.{changed, reach};
 ghost use Rattle.room_disk.specs.declared.change.FileChange.TheVariants.{Write};
 
 use crate::disk::DiskFault;
@@ -15,13 +15,6 @@ pub enum FileChange {
     Cut(u64),
 }
 
-/// A change and its file.
-#[derive(Drop)]
-pub struct FileCall {
-    pub file: u32,
-    pub change: FileChange,
-}
-
 impl FileChange {
     /// The write of a copy of these bytes.
     pub fn writing(alloc: Global, at: u64, bytes: &[u8]) -> Result<FileChange, DiskFault>
@@ -31,6 +24,18 @@ impl FileChange {
         match bytes.to_vec(alloc) {
             Ok(copy) => Ok(FileChange::Write(at, Bytes::from_vec(copy))),
             Err(_) => Err(DiskFault::Memory),
+        }
+    }
+
+    /// The length that it gives a file of this length.
+    pub fn length_after(&self, len: u64) -> u64
+        requires { reach self.now < 2 ^ 62 }
+        ensures length { (old : List ℕ) → length old ≡ len → result ≡ length (changed self.now old) }
+        ensures bound { len < 2 ^ 62 → result < 2 ^ 62 }
+    {
+        match self {
+            FileChange::Write(at, piece) => len.max((*at).min(len) + piece.len()),
+            FileChange::Cut(to) => len.min(*to),
         }
     }
 

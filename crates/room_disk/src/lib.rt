@@ -10,7 +10,7 @@ mod medium;
 mod mem;
 mod sure;
 
-pub use change::{FileCall, FileChange, is_past_bound};
+pub use change::{FileChange, is_past_bound};
 pub use disk::{Disk, DiskFault, Stop};
 pub use durable::put_down;
 pub use mem::MemDisk;

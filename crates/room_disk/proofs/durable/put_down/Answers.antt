@@ -1,4 +1,4 @@
-use Rattle.std.proofs.Common.{◌≡◌, sym, subst}
+use Rattle.std.proofs.Common.{sym, subst}
 use Rattle.room_disk.proofs.Moments.{stepped, followed, write_undone}
 use Rattle.room_disk.proofs.durable.put_down.Goals as goal
 

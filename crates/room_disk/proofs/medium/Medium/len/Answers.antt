@@ -1,4 +1,4 @@
-use Rattle.std.proofs.Common.{◌≡◌, ◌<◌, ◌^◌, ◌∙◌, ℕ, List, length, ap, sym, subst}
+use Rattle.std.proofs.Common.{◌<◌, ◌^◌, ◌∙◌, ℕ, List, length, ap, sym, subst}
 use Rattle.room_disk.proofs.medium.Medium.len.Goals as goal
 
 pub returns-clause-bound : goal.returns-clause-bound

@@ -1,7 +1,6 @@
-use Rattle.std.proofs.Common.{◌≡◌, ◌∙◌, ◌++◌, ◌∷◌, [], reverse, refl, ap, sym}
+use Rattle.std.proofs.Common.{◌∙◌, ◌++◌, ◌∷◌, [], ap}
 use Rattle.room_disk.specs.declared.medium.Entry.{Entry}
 use Rattle.room_disk.specs.declared.medium.Act.TheVariants.{Refused}
-use Rattle.room_disk.specs.Model.{Same}
 use Rattle.room_disk.specs.Changes.{ChangedInPart}
 use Rattle.room_disk.specs.Parts.{change_undone}
 use Rattle.room_disk.proofs.Recorded.{steps_none, steps_to, kept_to, choose_same, refuses}

@@ -1,10 +1,8 @@
-use Rattle.std.proofs.Common.{◌≡◌, ◌∙◌, ◌++◌, ◌∷◌, [], reverse, refl, ap, sym}
+use Rattle.std.proofs.Common.{◌∙◌, ◌++◌, ◌∷◌, [], refl, ap}
 use Rattle.room_disk.specs.declared.medium.Entry.{Entry}
 use Rattle.room_disk.specs.declared.medium.Act.TheVariants.{Synced}
 use Rattle.room_disk.specs.Model.{Same}
-use Rattle.room_disk.specs.Changes.{ChangedInPart}
-use Rattle.room_disk.specs.Parts.{change_undone}
-use Rattle.room_disk.proofs.Recorded.{steps_none, steps_to, kept_to, choose_same, syncs}
+use Rattle.room_disk.proofs.Recorded.{steps_to, kept_to, choose_same, syncs}
 use Rattle.room_disk.proofs.medium.Medium.sync.Goals as goal
 
 pub invariant_of-self-2 : goal.invariant_of-self-2

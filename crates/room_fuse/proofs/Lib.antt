@@ -1,0 +1,6 @@
+mod Lists
+mod Firsts
+mod Rests
+mod Passing
+mod Holding
+mod Mirroring
