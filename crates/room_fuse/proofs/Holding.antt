@@ -9,7 +9,7 @@ use Rattle.room_disk.proofs.Choices.{chosen, passed_over}
 use Rattle.room_disk.proofs.Moments.{keeps_same}
 use Rattle.room_fuse.specs.Held.{content_over, LeftOver, Fits, StaysBelow}
 use Rattle.room_fuse.specs.Past.{inner_at, held_at, LeftNow, images_at, IsMarked}
-use Rattle.room_fuse.specs.Laws.{inner_now, held_now, both, now_of, of_now}
+use Rattle.room_fuse.specs.Laws.{both, now_of, of_now}
 use Rattle.room_fuse.specs.declared.held.Held.{Held}
 use Rattle.room_fuse.specs.declared.past.Mark.{Mark}
 use Rattle.room_fuse.proofs.Lists.{Calls, Reads}

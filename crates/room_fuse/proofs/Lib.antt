@@ -4,3 +4,4 @@ mod Rests
 mod Passing
 mod Holding
 mod Mirroring
+mod Settling

@@ -1,10 +1,10 @@
 -- Lists of calls that are held back, the newest first.
-use Rattle.std.proofs.Common.{◌≡◌, ◌≢◌, ℕ, ◌+◌, ◌==◌, ◌≤◌, List, [], ◌∷◌, ◌++◌, length, reverse, cond, refl, sym, ◌∙◌, ap, subst}
+use Rattle.std.proofs.Common.{◌≡◌, ℕ, ◌==◌, ◌≤◌, List, [], ◌∷◌, ◌++◌, length, reverse, cond, refl, sym, ap, subst}
 use Rattle.std.proofs.lemmas.List.{reverse-append}
 use Rattle.room_disk.specs.Model.{Follows}
 use Rattle.room_disk.specs.Changes.{changed, ChangedInPart, place}
 use Rattle.room_disk.specs.Record.{Chosen}
-use Rattle.room_disk.proofs.Recorded.{same_test, other_test}
+use Rattle.room_disk.proofs.Recorded.{other_test}
 use Rattle.room_disk.proofs.Choices.{chosen_map, passed_over, pass_over}
 use Rattle.room_fuse.specs.Held.{content_over, LeftOver, Fits, Others}
 use Rattle.room_fuse.specs.declared.held.Held.{Held}

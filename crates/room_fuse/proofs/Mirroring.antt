@@ -1,16 +1,15 @@
 -- Calls of a fuse and of its inner disk, side by side.
-use Rattle.std.proofs.Common.{◌≡◌, ⊎_elim, ℕ, zero, suc, ◌+◌, ◌-◌, ◌≤◌, ◌<◌, List, Bool, true, false, [], ◌∷◌, length, reverse, refl, sym, ◌∙◌, ap, subst, arith}
-use Rattle.room_disk.specs.Model.{Images, Only, Keeps, StaysBetween, StepsBetween, RunsBetween}
-use Rattle.std.specs.Prelude.{Result, Ok, Err, OnOk}
+use Rattle.std.proofs.Common.{◌≡◌, ℕ, zero, suc, ◌+◌, ◌-◌, ◌<◌, List, Bool, true, false, [], ◌∷◌, length, reverse, refl, sym, ◌∙◌, subst, arith}
+use Rattle.room_disk.specs.Model.{Images, Only, Keeps, StaysBetween, RunsBetween}
+use Rattle.std.specs.Prelude.{Result, Ok, Err, OnOk, OnErr}
 use Rattle.room_disk.specs.declared.disk.DiskFault.{DiskFault}
 use Rattle.room_disk.specs.declared.disk.Stop.{Stop}
 use Rattle.room_disk.specs.declared.disk.Stop.TheVariants.{Old, New, Torn}
-use Rattle.room_disk.proofs.Moments.{up_to_or_past, keeps_same}
-use Rattle.room_fuse.specs.Held.{LeftOver, content_over, left_by, torn, Others, Rest}
+use Rattle.room_disk.proofs.Moments.{keeps_same}
+use Rattle.room_fuse.specs.Held.{content_over, left_by, torn, Others, Rest}
 use Rattle.room_fuse.specs.Past.{LeftNow, images_at, IsMarked}
-use Rattle.room_fuse.specs.Mirrors.{MirrorsBetween, CountsDownBetween, IsCounted}
+use Rattle.room_fuse.specs.Mirrors.{CountsDownBetween, IsCounted}
 use Rattle.room_fuse.specs.Laws.{counts_same, now_of, of_now, inner_is_left, inner_here, mirrored_same, MirroredTo}
-use Rattle.room_fuse.specs.declared.held.Held.{Held}
 use Rattle.room_fuse.specs.declared.past.Mark.{Mark}
 use Rattle.room_fuse.proofs.Lists.{Calls, Reads, over_skip, over_more, content_same, content_skip, others_reverse}
 use Rattle.room_fuse.proofs.Rests.{rest_settled}
@@ -65,6 +64,10 @@ counts_on fired armed armed_now n m fired_now how calm size counted = subst (λ 
 pub on_both : (r : Result Unit DiskFault) (A B C : Type 0) → OnOk r A → OnOk r B → (A → B → C) → OnOk r C
 on_both (Ok u) A B C a b to = to a b
 on_both (Err e) A B C a b to = tt
+
+pub on_err : (r : Result Unit DiskFault) (A : Type 0) → A → OnErr r A
+on_err (Ok u) A a = tt
+on_err (Err e) A a = a
 
 pub always : (r : Result Unit DiskFault) (A : Type 0) → A → OnOk r A
 always (Ok u) A a = a

@@ -1,8 +1,7 @@
 -- A call that is held back is passed on to the inner disk, the first of its file.
-use Rattle.std.proofs.Common.{◌≡◌, ◌≢◌, ◌⊎◌, inl, inr, ⊎_elim, ℕ, zero, suc, ◌+◌, ◌==◌, ◌≤◌, min, List, [], ◌∷◌, ◌++◌, length, take, drop, reverse, refl, sym, ◌∙◌, ap, subst, arith}
+use Rattle.std.proofs.Common.{◌≡◌, ◌⊎◌, inl, inr, ⊎_elim, ℕ, zero, suc, ◌+◌, ◌≤◌, min, List, [], ◌∷◌, ◌++◌, length, take, drop, reverse, refl, sym, ◌∙◌, ap, subst, arith}
 use Rattle.std.proofs.lemmas.List.{reverse-append, take_all, length-take}
 use Rattle.std.proofs.lemmas.Bool.{cases_eq}
-use Rattle.std.specs.Prelude.{Result, Ok, Err, OnOk}
 use Rattle.room_disk.specs.Model.{Images, Only, Follows, CutInPart, Same, StepsBetween, RunsBetween}
 use Rattle.room_disk.specs.Changes.{changed, ChangedInPart, place}
 use Rattle.room_disk.specs.declared.change.FileChange.{FileChange}

@@ -1,5 +1,5 @@
 -- What holds of the rest of a list holds of the list, and the other way.
-use Rattle.std.proofs.Common.{◌≡◌, ◌⊎◌, inl, inr, ⊎_elim, ℕ, suc, ◌==◌, ◌≤◌, ◌<◌, List, [], ◌∷◌, ◌++◌, length, map, reverse, slice_index_or, refl, sym, ◌∙◌, ap, subst, arith}
+use Rattle.std.proofs.Common.{◌≡◌, inl, inr, ⊎_elim, ℕ, ◌≤◌, ◌<◌, [], ◌∷◌, ◌++◌, length, reverse, slice_index_or, refl, sym, ◌∙◌, ap, subst, arith}
 use Rattle.std.proofs.lemmas.List.{reverse-append}
 use Rattle.room_disk.proofs.Recorded.{other_test}
 use Rattle.room_fuse.specs.Held.{content_over, applied, StaysBelow, Others, Rest, torn, torn_call}

@@ -131,6 +131,14 @@ settled_is_left Old S B xs fits here f = inner_is_left B xs f (S f) (here f)
 settled_is_left New S B xs fits here f = content_is_left S B xs fits here f
 settled_is_left Torn S B xs fits here f = torn_is_left B xs f (content_over S (torn xs) f) (content_is_left S B (torn xs) (torn_fits S xs fits) here f)
 
+bare_by : (how : Stop) (S : Reads) (f : ℕ) → left_by how S [] f ≡ S f
+bare_by Old S f = refl
+bare_by New S f = refl
+bare_by Torn S f = refl
+
+pub bare_left : (S : Reads) (held : List Held) → held ≡ [] → (how : Stop) (f : ℕ) → left_by how S (reverse held) f ≡ S f
+bare_left S held none how f = ap (λ (l : List Held). left_by how S (reverse l) f) none ∙ bare_by how S f
+
 -- The count down.
 
 pub counts_same : (fired : Bool) (armed n : ℕ) (how : Stop) → CountsDownBetween fired armed n how fired armed n how
@@ -238,6 +246,10 @@ module _ {D : Type 0} where
     -- each image of the inner disk now is one of the fuse now
     pub inner_here : (past : List (Mark D)) (inner : D) (held : List Held) (f : ℕ) (c : List ℕ) → images inner (moment inner) f c → images_at images moment past inner held (length past) f c
     inner_here past inner held f c left = now_of past inner held f c (inner_is_left (images inner (moment inner)) (reverse held) f c left)
+
+    -- where nothing is held back, what is left is left of the inner disk
+    pub bare_images : (past : List (Mark D)) (inner : D) (held : List Held) → held ≡ [] → (f : ℕ) (c : List ℕ) → images_at images moment past inner held (length past) f c → images inner (moment inner) f c
+    bare_images past inner held none f c left = subst (λ (l : List Held). LeftNow images moment inner l f c) none (of_now past inner held f c left)
 
     abbrev pub MirroredTo : List (Mark D) → D → List Held → List (Mark D) → D → List Held → Type 0
     MirroredTo past inner held ps later after =

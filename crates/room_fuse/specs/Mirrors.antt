@@ -39,3 +39,12 @@ CountsDown stopped armed moment way old new =
 abbrev pub settled_by : Bool → Stop → Stop
 settled_by true how = how
 settled_by false how = Old
+
+-- A disk that holds nothing back, and isn't armed: it is as its inner disk is.
+pub record IsBare {D : Type 0} (seen : D → ℕ → List ℕ) (moment : D → ℕ) (images : D → Images) (stopped : D → Bool) (leaves : D → Stop → ℕ → List ℕ)
+    (inner_seen : D → ℕ → List ℕ) (inner_moment : D → ℕ) (inner_images : D → Images) (armed : D → ℕ) (d : D) : Type 0 where
+  pub running : stopped d ≡ false
+  pub unarmed : armed d ≡ 0
+  pub reads : (f : ℕ) → seen d f ≡ inner_seen d f
+  pub left : (how : Stop) (f : ℕ) → leaves d how f ≡ inner_seen d f
+  pub images_left : (f : ℕ) (c : List ℕ) → images d (moment d) f c → inner_images d (inner_moment d) f c

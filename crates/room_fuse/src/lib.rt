@@ -7,5 +7,8 @@ mod held;
 mod load;
 mod pass;
 mod past;
+mod settle;
+mod stopping;
 
 pub use fuse::Fused;
+pub use stopping::Stopping;

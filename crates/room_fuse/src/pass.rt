@@ -95,6 +95,7 @@ pub(crate) fn pass_all<D: Disk>(
 pub(crate) fn pass_whole<D: Disk>(disk: &mut D, held: &mut Vec<Held>) -> Result<(), DiskFault>
     requires { D.tells ≡ true → Fits (D.seen disk.old) (reverse held.old.items) }
     ensures passed { D.tells ≡ true → Passed D.seen D.moment D.images disk.old held.old.items disk.new held.new.items }
+    ensures no_more { length held.new.items ≤ length held.old.items }
     ensures below { StaysBelow held.old.items → StaysBelow held.new.items }
     ensures torn { torn held.old.items ≡ held.old.items → torn held.new.items ≡ held.new.items }
     ensures empty { OnOk result (held.new.items ≡ []) }

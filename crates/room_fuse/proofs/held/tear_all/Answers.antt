@@ -1,4 +1,4 @@
-use Rattle.std.proofs.Common.{◌≡◌, ◌<◌, ◌∙◌, ap, sym, length, slice_set, slice_index_or, arith}
+use Rattle.std.proofs.Common.{◌<◌, ◌∙◌, ap, sym, length, slice_set, slice_index_or, arith}
 use Rattle.std.proofs.lemmas.List.Edits.{map_over_more}
 use Rattle.room_disk.specs.declared.change.FileChange.{FileChange}
 use Rattle.room_fuse.specs.Held.{torn_call}

@@ -1,4 +1,4 @@
-use Rattle.std.proofs.Common.{◌∙◌, ap, sym}
+use Rattle.std.proofs.Common.{◌∙◌, sym}
 use Rattle.std.proofs.lemmas.Bool.{eqb-true}
 use Rattle.room_fuse.proofs.Firsts.{none_of}
 use Rattle.room_fuse.proofs.load.is_spared.Goals as goal

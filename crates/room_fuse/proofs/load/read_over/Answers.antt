@@ -1,4 +1,4 @@
-use Rattle.std.proofs.Common.{◌≡◌, ◌+◌, ◌≤◌, ℕ, List, length, take, drop, reverse, sym, subst, rules}
+use Rattle.std.proofs.Common.{◌+◌, ◌≤◌, ℕ, List, length, reverse, subst, rules}
 use Rattle.room_fuse.specs.Held.{Others}
 use Rattle.room_fuse.proofs.Lists.{content_skip, others_reverse}
 use Rattle.room_fuse.proofs.load.read_over.Goals as goal

@@ -1,4 +1,4 @@
-use Rattle.room_fuse.proofs.Passing.{passed_then, spares_then, spares_step, synced}
+use Rattle.room_fuse.proofs.Passing.{passed_then, synced}
 use Rattle.room_fuse.proofs.pass.pass_all.Goals as goal
 
 pub returns-clause-passed : goal.returns-clause-passed

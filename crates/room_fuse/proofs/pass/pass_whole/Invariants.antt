@@ -7,6 +7,7 @@ use Rattle.room_fuse.proofs.pass.pass_whole.Given as goal
 abbrev pub invariant-loop-held : goal.invariant-loop-held
 invariant-loop-held g l = let d = g.D.Disk in record {
   passed : d.tells ≡ true → Passed d.seen d.moment d.images l.initial.disk l.initial.held.items l.disk l.held.items;
+  no_more : length l.held.items ≤ length l.initial.held.items;
   below : StaysBelow l.initial.held.items → StaysBelow l.held.items;
   still_torn : torn l.initial.held.items ≡ l.initial.held.items → torn l.held.items ≡ l.held.items;
   durable : d.tells ≡ true → (f : ℕ) → Others f l.held.items → (Others f l.initial.held.items → ⊥) → Only (d.seen l.disk f) (d.images l.disk (d.moment l.disk) f);
