@@ -6,7 +6,7 @@ use Rattle.std.specs.Prelude.{◌≡◌, ℕ, ◌+◌, ◌≤◌, min, max, List
 abbrev pub written : ℕ → List ℕ → List ℕ → List ℕ
 written at bytes old = take at old ++ bytes ++ drop (at + length bytes) old
 
--- after a write of n bytes that a stop may have cut short: any bytes in its range and past the old end, the same elsewhere
+-- after a write of n bytes that a stop may have cut short: any bytes in its range and past the old end
 pub record WrittenInPart (at n : ℕ) (old new : List ℕ) : Type 0 where
   pub before : take at new ≡ take at old
   pub after : drop (at + n) new ≡ drop (at + n) old
@@ -33,6 +33,11 @@ Only file images = (c : List ℕ) → images c → c ≡ file
 abbrev pub OnFile : ℕ → (List ℕ → Type 0) → (ℕ → List ℕ → Type 0) → ℕ → List ℕ → Type 0
 OnFile file P was f c = (f ≡ file → P c) × ((f ≡ file → ⊥) → was f c)
 
+-- files by number
+abbrev pub Reads : Type 0
+Reads = ℕ → List ℕ
+
+-- what a stop at a moment leaves of a file
 abbrev pub Images : Type 1
 Images = ℕ → ℕ → List ℕ → Type 0
 
@@ -44,13 +49,13 @@ pub record Keeps (before : ℕ) (was is : Images) : Type 0 where
 -- From the moment `before` to the moment `now`.
 
 -- nothing has changed
-pub record StaysBetween (before now : ℕ) (was is : Images) (old new : ℕ → List ℕ) : Type 0 where
+pub record StaysBetween (before now : ℕ) (was is : Images) (old new : Reads) : Type 0 where
   pub moment : now ≡ before
   pub keeps : Keeps before was is
   pub seen : (f : ℕ) → new f ≡ old f
 
 -- a call on one file: one moment more at most, the other files as they were, this file and its images by a step
-pub record StepsBetween (file : ℕ) (step : List ℕ → List ℕ → Type 0) (before now : ℕ) (was is : Images) (old new : ℕ → List ℕ) : Type 0 where
+pub record StepsBetween (file : ℕ) (step : List ℕ → List ℕ → Type 0) (before now : ℕ) (was is : Images) (old new : Reads) : Type 0 where
   pub later : before ≤ now
   pub most : now ≤ before + 1
   pub keeps : Keeps before was is
@@ -66,18 +71,19 @@ pub record RunsBetween (before now : ℕ) (was is : Images) (P : ℕ → List �
   pub each : (m f : ℕ) (c : List ℕ) → before ≤ m → m ≤ now → is m f c → P f c
 
 -- at each moment, each image of all files together has R
-pub record WholeBetween (before now : ℕ) (was is : Images) (R : (ℕ → List ℕ) → Type 0) : Type 0 where
+pub record WholeBetween (before now : ℕ) (was is : Images) (R : Reads → Type 0) : Type 0 where
   pub later : before ≤ now
   pub keeps : Keeps before was is
-  pub each : (m : ℕ) (image : ℕ → List ℕ) → before ≤ m → m ≤ now → ((f : ℕ) → is m f (image f)) → R image
+  pub each : (m : ℕ) (image : Reads) → before ≤ m → m ≤ now → ((f : ℕ) → is m f (image f)) → R image
 
 -- The same of a disk, by its clock, its images and what a read of it gives.
 
-abbrev pub Steps : {D : Type 0} → (D → ℕ → List ℕ) → (D → ℕ) → (D → Images) → ℕ → (List ℕ → List ℕ → Type 0) → D → D → Type 0
-Steps seen moment images file step old new = StepsBetween file step (moment old) (moment new) (images old) (images new) (seen old) (seen new)
+abbrev pub Steps : {D : Type 0} → (D → Reads) → (D → ℕ) → (D → Images) → ℕ → (List ℕ → List ℕ → Type 0) → D → D → Type 0
+Steps seen moment images file step old new =
+    StepsBetween file step (moment old) (moment new) (images old) (images new) (seen old) (seen new)
 
 abbrev pub Within : {D : Type 0} → (D → ℕ) → (D → Images) → D → D → (ℕ → List ℕ → Type 0) → Type 0
 Within moment images old new P = RunsBetween (moment old) (moment new) (images old) (images new) P
 
-abbrev pub WithinWhole : {D : Type 0} → (D → ℕ) → (D → Images) → D → D → ((ℕ → List ℕ) → Type 0) → Type 0
+abbrev pub WithinWhole : {D : Type 0} → (D → ℕ) → (D → Images) → D → D → (Reads → Type 0) → Type 0
 WithinWhole moment images old new R = WholeBetween (moment old) (moment new) (images old) (images new) R

@@ -1,8 +1,9 @@
--- What a record of calls says of a disk that began empty. The newest call stands first where a list is named `older` or reversed.
+-- What a record of calls says of a disk that began empty. The newest call stands first where a list is named `older` or is
+-- reversed.
 use Rattle.std.specs.Prelude.{◌≡◌, ◌⊎◌, ℕ, List, [], ◌∷◌, ◌++◌, length, take, cond, ◌==◌, Bool, true, false, refl}
 use Rattle.std.proofs.Common.{inl, sym, ◌∙◌, ap, subst, reverse, append-nil, append_assoc}
 use Rattle.std.proofs.Math.Seq.{take-length}
-use Rattle.room_disk.specs.Model.{Images, Follows, StepsBetween}
+use Rattle.room_disk.specs.Model.{Reads, Images, Follows, Only, StepsBetween}
 use Rattle.room_disk.specs.Changes.{changed, ChangedInPart}
 use Rattle.room_disk.specs.declared.medium.Entry.{Entry}
 use Rattle.room_disk.specs.declared.medium.Act.{Act}
@@ -32,18 +33,24 @@ LeftBy Synced was c = ⊥
 -- what a stop may leave
 abbrev pub MayLeave : List Entry → ℕ → List ℕ → Type 0
 MayLeave [] f c = c ≡ []
-MayLeave (x ∷ older) f c = Chosen (x.file == f) ((c ≡ done_by x.act (content_of older f)) ⊎ LeftBy x.act (MayLeave older f) c) (MayLeave older f c)
+MayLeave (x ∷ older) f c =
+    Chosen (x.file == f) ((c ≡ done_by x.act (content_of older f)) ⊎ LeftBy x.act (MayLeave older f) c) (MayLeave older f c)
 
 -- The same of a record whose newest call stands last.
 
-abbrev pub seen_of : List Entry → ℕ → List ℕ
+abbrev pub seen_of : List Entry → Reads
 seen_of xs f = content_of (reverse xs) f
 
 abbrev pub images_of : List Entry → Images
 images_of xs m f c = MayLeave (reverse (take m xs)) f c
 
 abbrev pub StepsTo : ℕ → (List ℕ → List ℕ → Type 0) → List Entry → List Entry → Type 0
-StepsTo file step old new = StepsBetween file step (length old) (length new) (images_of old) (images_of new) (seen_of old) (seen_of new)
+StepsTo file step old new =
+    StepsBetween file step (length old) (length new) (images_of old) (images_of new) (seen_of old) (seen_of new)
+
+-- a stop now may leave nothing else
+abbrev pub OnlySeen : List Entry → List Entry → ℕ → Type 0
+OnlySeen old new f = Only (seen_of old f) (images_of new (length new) f)
 
 -- the record of the first goes on in the second
 abbrev pub Extends : List Entry → List Entry → Type 0

@@ -21,10 +21,7 @@ impl FileChange {
         ensures ok { IfOk result (λ x. x ≡ Write at bytes.now) }
         ensures cause { IfErr result (λ e. e ≡ DiskFault.Memory) }
     {
-        match bytes.to_vec(alloc) {
-            Ok(copy) => Ok(FileChange::Write(at, Bytes::from_vec(copy))),
-            Err(_) => Err(DiskFault::Memory),
-        }
+        Ok(FileChange::Write(at, Bytes::from_vec(bytes.to_vec(alloc)?)))
     }
 
     /// The length that it gives a file of this length.
@@ -70,9 +67,7 @@ fn overwrite(bytes: &mut Vec<u8>, at: usize, piece: &[u8]) -> Result<(), DiskFau
 {
     let at = at.min(bytes.len());
     let over = piece.len().min(bytes.len() - at);
-    if bytes.extend_from_slice(&piece[over..]).is_err() {
-        return Err(DiskFault::Memory);
-    }
+    bytes.extend_from_slice(&piece[over..])?;
     bytes.as_mut_slice()[at..at + over].copy_from_slice(&piece[..over]);
     Ok(())
 }

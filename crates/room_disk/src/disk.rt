@@ -1,6 +1,9 @@
 //! A disk of numbered files, as its callers see it, and what a stop may leave of it.
 ghost use Rattle.std.specs.Prelude.{◌≡◌, ◌≤◌, ◌<◌, ◌^◌, ◌+◌, List, ℕ, Bool, true, false, length, take, drop, IfOk, OnOk};
+ghost use Rattle.room_disk.specs.declared.disk.DiskFault.TheVariants.{Memory};
 ghost use Rattle.room_disk.specs.Model.{written, WrittenInPart, CutInPart, Same, Only, Steps};
+
+use std::alloc::{AllocError, AllocFailed};
 
 /// How a stop is settled: without what was held back, with it, or with each of its bytes replaced by 255.
 #[derive(Clone, Copy, Debug, PartialEq, Eq)]
@@ -19,8 +22,24 @@ pub enum DiskFault {
     Failed,
 }
 
-/// Files by number, each empty at first and of fewer than 2^62 bytes. A refused write or cut may have been done whole, in
-/// part or not at all.
+impl From<AllocError> for DiskFault {
+    ghost from_gives = { λ _ e. e ≡ Memory };
+
+    fn from(_e: AllocError) -> DiskFault {
+        DiskFault::Memory
+    }
+}
+
+impl<T: Drop> From<AllocFailed<T>> for DiskFault {
+    ghost from_gives = { λ _ e. e ≡ Memory };
+
+    fn from(_e: AllocFailed<T>) -> DiskFault {
+        DiskFault::Memory
+    }
+}
+
+/// Files by number, each empty at first and of fewer than 2^62 bytes. A refused write or cut may have been done whole,
+/// in part or not at all.
 pub trait Disk {
     ghost use Rattle.room_disk.specs.declared.disk.Stop.{Stop};
     ghost use Rattle.room_disk.specs.Causes.{HasCause};
@@ -82,10 +101,13 @@ pub trait Disk {
         requires { tells ≡ true → at ≤ length (seen self.old file) }
         ensures written { tells ≡ true → OnOk result (seen self.new file ≡ written at bytes.now (seen self.old file)) }
         ensures counted { tells ≡ true → OnOk result (moment self.new ≡ moment self.old + 1) }
-        ensures steps { tells ≡ true → Steps seen moment images file (WrittenInPart at (length bytes.now)) self.old self.new }
+        ensures steps { tells ≡ true
+            → Steps seen moment images file (WrittenInPart at (length bytes.now)) self.old self.new }
         ensures bound { OnOk result (at + length bytes.now < 2 ^ 62) }
-        ensures full { tells ≡ true → 2 ^ 62 ≤ at + length bytes.now → Stays seen moment images stopped leaves self.old self.new }
-        ensures held { tells ≡ true → stops ≡ true → Holds stopped leaves file (λ how. settled_write how at bytes.now) self.old self.new result }
+        ensures full { tells ≡ true → 2 ^ 62 ≤ at + length bytes.now
+            → Stays seen moment images stopped leaves self.old self.new }
+        ensures held { tells ≡ true → stops ≡ true
+            → Holds stopped leaves file (settled_write at bytes.now) self.old self.new result }
         ensures stop { MeetsStop moment stopped leaves self.old self.new result }
         ensures came { came self.old self.new }
         ensures cause { HasCause may_run_out faults inner_faults stopped self.old self.new result };
@@ -96,14 +118,16 @@ pub trait Disk {
         ensures cut { tells ≡ true → OnOk result (seen self.new file ≡ take len (seen self.old file)) }
         ensures counted { tells ≡ true → OnOk result (moment self.new ≡ moment self.old + 1) }
         ensures steps { tells ≡ true → Steps seen moment images file (CutInPart len) self.old self.new }
-        ensures held { tells ≡ true → stops ≡ true → Holds stopped leaves file (λ how. settled_cut how len) self.old self.new result }
+        ensures held { tells ≡ true → stops ≡ true
+            → Holds stopped leaves file (settled_cut len) self.old self.new result }
         ensures stop { MeetsStop moment stopped leaves self.old self.new result }
         ensures came { came self.old self.new }
         ensures cause { HasCause may_run_out faults inner_faults stopped self.old self.new result };
 
     /// Puts what was written and cut of a file beyond any stop: from then on a stop leaves what a read gives.
     fn sync(&mut self, file: u32) -> Result<(), DiskFault>
-        ensures durable { tells ≡ true → OnOk result (Only (seen self.old file) (images self.new (moment self.new) file)) }
+        ensures durable { tells ≡ true
+            → OnOk result (Only (seen self.old file) (images self.new (moment self.new) file)) }
         ensures counted { tells ≡ true → OnOk result (moment self.new ≡ moment self.old + 1) }
         ensures steps { tells ≡ true → Steps seen moment images file Same self.old self.new }
         ensures passed { tells ≡ true → stops ≡ true → Passes seen stopped leaves file self.old self.new result }
@@ -119,5 +143,6 @@ pub trait Disk {
 
     ghost seen_is_image: { (disk : Self) (file : ℕ) → tells ≡ true → images disk (moment disk) file (seen disk file) };
 
-    ghost left_is_image: { (disk : Self) (how : Stop) (file : ℕ) → tells ≡ true → images disk (moment disk) file (leaves disk how file) };
+    ghost left_is_image: { (disk : Self) (how : Stop) (file : ℕ) → tells ≡ true
+        → images disk (moment disk) file (leaves disk how file) };
 }

@@ -10,19 +10,23 @@ use crate::disk::{Disk, DiskFault, Stop};
 pub fn put_down<D: Disk>(disk: &mut D, file: u32, at: u64, bytes: &[u8]) -> Result<(), DiskFault>
     requires { D.tells ≡ true → at ≤ length (D.seen disk.old file) }
     ensures bound { OnOk result (at + length bytes.now < 2 ^ 62) }
-    ensures written { D.tells ≡ true → OnOk result (D.seen disk.new file ≡ written at bytes.now (D.seen disk.old file)) }
+    ensures written { D.tells ≡ true
+        → OnOk result (D.seen disk.new file ≡ written at bytes.now (D.seen disk.old file)) }
     ensures others { D.tells ≡ true → (f : ℕ) → (f ≡ file → ⊥) → D.seen disk.new f ≡ D.seen disk.old f }
-    ensures durable { D.tells ≡ true → OnOk result (Only (D.seen disk.new file) (D.images disk.new (D.moment disk.new) file)) }
+    ensures durable { D.tells ≡ true
+        → OnOk result (Only (D.seen disk.new file) (D.images disk.new (D.moment disk.new) file)) }
     ensures counted { D.tells ≡ true → OnOk result (D.moment disk.new ≡ D.moment disk.old + 2) }
     ensures within { D.tells ≡ true → Within D.moment D.images disk.old disk.new
-        (OnFile file (Follows (WrittenInPart at (length bytes.now)) (D.images disk.old (D.moment disk.old) file)) (D.images disk.old (D.moment disk.old))) }
+        (OnFile file (Follows (WrittenInPart at (length bytes.now)) (D.images disk.old (D.moment disk.old) file))
+        (D.images disk.old (D.moment disk.old))) }
     // Where one of the two calls is the stop, it leaves the write held back.
     ensures at_stop { D.tells ≡ true → D.stops ≡ true → D.stopped disk.old ≡ false → D.stopped disk.new ≡ true
-        → Settles file (λ how. settled_write how at bytes.now) (D.leaves disk.old) (D.leaves disk.new) }
+        → Settles file (settled_write at bytes.now) (D.leaves disk.old) (D.leaves disk.new) }
     ensures stop_counted { D.tells ≡ true → D.stopped disk.old ≡ false → D.stopped disk.new ≡ true
         → (D.moment disk.old < D.moment disk.new) × (D.moment disk.new ≤ D.moment disk.old + 2) }
     ensures stop_fails { D.stopped disk.new ≡ true → IsErrOf result DiskFault.Failed }
-    ensures passed { D.tells ≡ true → D.stops ≡ true → OnOk result ((how : Stop) → D.leaves disk.new how file ≡ D.seen disk.new file) }
+    ensures passed { D.tells ≡ true → D.stops ≡ true
+        → OnOk result ((how : Stop) → D.leaves disk.new how file ≡ D.seen disk.new file) }
     ensures left { D.tells ≡ true → D.stops ≡ true → D.stopped disk.old ≡ false
         → OnOk result ((how : Stop) (f : ℕ) → (f ≡ file → ⊥) → D.leaves disk.new how f ≡ D.leaves disk.old how f) }
     ensures came { D.came disk.old disk.new }

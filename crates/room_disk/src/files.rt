@@ -37,8 +37,6 @@ pub(crate) fn change_file(
     }
     let mut bytes = Vec::new(alloc);
     change.apply(&mut bytes)?;
-    match files.insert(file, bytes) {
-        Ok(_) => Ok(()),
-        Err(_) => Err(DiskFault::Memory),
-    }
+    drop(files.insert(file, bytes)?);
+    Ok(())
 }

@@ -1,9 +1,9 @@
 //! Files in memory, with a record of the calls on them from which contracts see what a stop leaves.
 ghost use Rattle.std.specs.Prelude.{◌≡◌, ◌≤◌, ◌<◌, ◌+◌, ◌^◌, ◌++◌, ◌∷◌, [], ℕ, length, take, drop, reverse, OnOk, OnErr, IfErr, vec_len, vec_capacity};
-ghost use Rattle.room_disk.specs.Model.{written, WrittenInPart, Same, Only};
+ghost use Rattle.room_disk.specs.Model.{written, WrittenInPart, Same};
 ghost use Rattle.room_disk.specs.Changes.{changed, ChangedInPart, place, reach};
 ghost use Rattle.room_disk.specs.Files.{content_in, small_prop};
-ghost use Rattle.room_disk.specs.Record.{content_of, seen_of, images_of, StepsTo, Extends};
+ghost use Rattle.room_disk.specs.Record.{content_of, seen_of, StepsTo, OnlySeen, Extends};
 
 use crate::change::{FileChange, is_past_bound};
 use crate::disk::DiskFault;
@@ -86,15 +86,14 @@ impl Medium {
     pub(crate) fn change(&mut self, file: u32, change: FileChange) -> Result<(), DiskFault>
         requires place { place change ≤ length (seen_of self.old.entries.items file) }
         requires reach { reach change < 2 ^ 62 }
-        ensures done { OnOk result (seen_of self.new.entries.items file ≡ changed change (seen_of self.old.entries.items file)) }
+        ensures done { OnOk result (seen_of self.new.entries.items file
+            ≡ changed change (seen_of self.old.entries.items file)) }
         ensures counted { OnOk result (length self.new.entries.items ≡ length self.old.entries.items + 1) }
         ensures steps { StepsTo file (ChangedInPart change) self.old.entries.items self.new.entries.items }
         ensures grown { Extends self.old.entries.items self.new.entries.items }
         ensures cause { IfErr result (λ e. e ≡ DiskFault.Memory) }
     {
-        if self.entries.reserve(1).is_err() {
-            return Err(DiskFault::Memory);
-        }
+        self.entries.reserve(1)?;
         change_file(self.alloc, &mut self.files, file, &change)?;
         add(&mut self.entries, file, Act::Done(change));
         Ok(())
@@ -107,32 +106,30 @@ impl Medium {
         ensures grown { Extends self.old.entries.items self.new.entries.items }
         ensures cause { IfErr result (λ e. e ≡ DiskFault.Memory) }
     {
-        if self.entries.reserve(1).is_err() {
-            return Err(DiskFault::Memory);
-        }
+        self.entries.reserve(1)?;
         add(&mut self.entries, file, Act::Refused(change));
         Ok(())
     }
 
     pub(crate) fn sync(&mut self, file: u32) -> Result<(), DiskFault>
-        ensures durable { OnOk result (Only (seen_of self.old.entries.items file) (images_of self.new.entries.items (length self.new.entries.items) file)) }
+        ensures durable { OnOk result (OnlySeen self.old.entries.items self.new.entries.items file) }
         ensures counted { OnOk result (length self.new.entries.items ≡ length self.old.entries.items + 1) }
         ensures steps { StepsTo file Same self.old.entries.items self.new.entries.items }
         ensures grown { Extends self.old.entries.items self.new.entries.items }
         ensures cause { IfErr result (λ e. e ≡ DiskFault.Memory) }
     {
-        if self.entries.reserve(1).is_err() {
-            return Err(DiskFault::Memory);
-        }
+        self.entries.reserve(1)?;
         add(&mut self.entries, file, Act::Synced);
         Ok(())
     }
 
     pub(crate) fn write(&mut self, file: u32, at: u64, bytes: &[u8]) -> Result<(), DiskFault>
         requires { at ≤ length (seen_of self.old.entries.items file) }
-        ensures done { OnOk result (seen_of self.new.entries.items file ≡ written at bytes.now (seen_of self.old.entries.items file)) }
+        ensures done { OnOk result (seen_of self.new.entries.items file
+            ≡ written at bytes.now (seen_of self.old.entries.items file)) }
         ensures counted { OnOk result (length self.new.entries.items ≡ length self.old.entries.items + 1) }
-        ensures steps { StepsTo file (WrittenInPart at (length bytes.now)) self.old.entries.items self.new.entries.items }
+        ensures steps { StepsTo file (WrittenInPart at (length bytes.now))
+            self.old.entries.items self.new.entries.items }
         ensures bound { OnOk result (at + length bytes.now < 2 ^ 62) }
         ensures full { 2 ^ 62 ≤ at + length bytes.now → self.new.entries ≡ self.old.entries }
         ensures grown { Extends self.old.entries.items self.new.entries.items }
@@ -148,7 +145,8 @@ impl Medium {
     /// Notes a write that was not made; one past the bound changes nothing in any case.
     pub(crate) fn refuse_write(&mut self, file: u32, at: u64, bytes: &[u8]) -> Result<(), DiskFault>
         ensures same { seen_of self.new.entries.items file ≡ seen_of self.old.entries.items file }
-        ensures steps { StepsTo file (WrittenInPart at (length bytes.now)) self.old.entries.items self.new.entries.items }
+        ensures steps { StepsTo file (WrittenInPart at (length bytes.now))
+            self.old.entries.items self.new.entries.items }
         ensures full { 2 ^ 62 ≤ at + length bytes.now → self.new.entries ≡ self.old.entries }
         ensures grown { Extends self.old.entries.items self.new.entries.items }
         ensures cause { IfErr result (λ e. e ≡ DiskFault.Memory) }

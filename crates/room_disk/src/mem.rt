@@ -2,9 +2,9 @@
 ghost use Rattle.std.specs.Prelude.{◌≡◌, [], ℕ, List, true, false, length, take, drop, ◌<◌, ◌≤◌, ◌+◌, ◌^◌, IfOk, OnOk, IfErr};
 ghost use Rattle.room_edge.specs.Memory.{no_calls, is_to_fail};
 ghost use Rattle.room_disk.specs.Failing.{lifted, Counts};
-ghost use Rattle.room_disk.specs.Model.{written, WrittenInPart, CutInPart, Same, Only};
+ghost use Rattle.room_disk.specs.Model.{written, WrittenInPart, CutInPart, Same};
 ghost use Rattle.room_disk.specs.Files.{small_seen};
-ghost use Rattle.room_disk.specs.Record.{seen_of, images_of, StepsTo, Extends, extends_same, extends_then, seen_may_be_left};
+ghost use Rattle.room_disk.specs.Record.{seen_of, images_of, StepsTo, OnlySeen, Extends, extends_same, extends_then, seen_may_be_left};
 
 use crate::change::FileChange;
 use crate::disk::{Disk, DiskFault};
@@ -51,11 +51,11 @@ impl Disk for MemDisk {
 
     ghost may_run_out = { true };
 
-    ghost seen = { λ d f. seen_of d.medium.entries.items f };
+    ghost seen = { λ d f. seen_of (record_of d) f };
 
-    ghost moment = { λ d. length d.medium.entries.items };
+    ghost moment = { λ d. length (record_of d) };
 
-    ghost images = { λ d m f c. images_of d.medium.entries.items m f c };
+    ghost images = { λ d m f c. images_of (record_of d) m f c };
 
     ghost faults = { λ d. d.calls.faults };
 
@@ -65,19 +65,20 @@ impl Disk for MemDisk {
 
     ghost stopped = { λ d. false };
 
-    ghost leaves = { λ d how f. seen_of d.medium.entries.items f };
+    ghost leaves = { λ d how f. seen_of (record_of d) f };
 
-    ghost came = { λ a b. Extends a.medium.entries.items b.medium.entries.items };
+    ghost came = { λ a b. Extends (record_of a) (record_of b) };
 
-    ghost came_same = { λ a. extends_same a.medium.entries.items };
+    ghost came_same = { λ a. extends_same (record_of a) };
 
-    ghost came_then = { λ a b c first second. extends_then a.medium.entries.items b.medium.entries.items c.medium.entries.items first second };
+    ghost came_then = { λ a b c first second. extends_then (record_of a) (record_of b) (record_of c) first second };
 
-    ghost seen_is_small = { λ d f told. small_seen d.medium.files (seen_of d.medium.entries.items) d.medium.kept d.medium.small f };
+    ghost seen_is_small = { λ d f told.
+        small_seen d.medium.files (seen_of (record_of d)) d.medium.kept d.medium.small f };
 
-    ghost seen_is_image = { λ d f told. seen_may_be_left d.medium.entries.items f };
+    ghost seen_is_image = { λ d f told. seen_may_be_left (record_of d) f };
 
-    ghost left_is_image = { λ d how f told. seen_may_be_left d.medium.entries.items f };
+    ghost left_is_image = { λ d how f told. seen_may_be_left (record_of d) f };
 
     fn len(&mut self, file: u32) -> Result<u64, DiskFault>
         ensures length { IfOk result (λ n. n ≡ length (seen_of (record_of self.old) file)) }
@@ -112,7 +113,8 @@ impl Disk for MemDisk {
 
     fn write_at(&mut self, file: u32, at: u64, bytes: &[u8]) -> Result<(), DiskFault>
         requires { at ≤ length (seen_of (record_of self.old) file) }
-        ensures written { OnOk result (seen_of (record_of self.new) file ≡ written at bytes.now (seen_of (record_of self.old) file)) }
+        ensures written { OnOk result (seen_of (record_of self.new) file
+            ≡ written at bytes.now (seen_of (record_of self.old) file)) }
         ensures counted { OnOk result (length (record_of self.new) ≡ length (record_of self.old) + 1) }
         ensures steps { StepsTo file (WrittenInPart at (length bytes.now)) (record_of self.old) (record_of self.new) }
         ensures bound { OnOk result (at + length bytes.now < 2 ^ 62) }
@@ -147,7 +149,7 @@ impl Disk for MemDisk {
     }
 
     fn sync(&mut self, file: u32) -> Result<(), DiskFault>
-        ensures durable { OnOk result (Only (seen_of (record_of self.old) file) (images_of (record_of self.new) (length (record_of self.new)) file)) }
+        ensures durable { OnOk result (OnlySeen (record_of self.old) (record_of self.new) file) }
         ensures counted { OnOk result (length (record_of self.new) ≡ length (record_of self.old) + 1) }
         ensures steps { StepsTo file Same (record_of self.old) (record_of self.new) }
         ensures grown { Extends (record_of self.old) (record_of self.new) }

@@ -3,11 +3,12 @@ ghost use Rattle.std.specs.Prelude.{◌≡◌, [], ℕ, List, true, false, lengt
 ghost use Rattle.room_disk.specs.Files.{small_seen};
 ghost use Rattle.room_disk.specs.Record.{seen_of, images_of, Extends, extends_same, extends_then, seen_may_be_left};
 
+use crate::change::FileChange;
 use crate::disk::{Disk, DiskFault};
 use crate::medium::Medium;
 use std::alloc::Global;
 
-/// Files in memory, and a record of the calls on them. It fails only where it is out of memory, or past the bound of a file.
+/// Files in memory, and a record of the calls on them. It answers `Memory` alone, past the bound of a file too.
 #[derive(Drop)]
 pub struct SureDisk {
     medium: Medium,
@@ -51,9 +52,11 @@ impl Disk for SureDisk {
 
     ghost came_same = { λ a. extends_same a.medium.entries.items };
 
-    ghost came_then = { λ a b c first second. extends_then a.medium.entries.items b.medium.entries.items c.medium.entries.items first second };
+    ghost came_then = { λ a b c first second.
+        extends_then a.medium.entries.items b.medium.entries.items c.medium.entries.items first second };
 
-    ghost seen_is_small = { λ d f told. small_seen d.medium.files (seen_of d.medium.entries.items) d.medium.kept d.medium.small f };
+    ghost seen_is_small = { λ d f told.
+        small_seen d.medium.files (seen_of d.medium.entries.items) d.medium.kept d.medium.small f };
 
     ghost seen_is_image = { λ d f told. seen_may_be_left d.medium.entries.items f };
 
@@ -80,5 +83,3 @@ impl Disk for SureDisk {
         self.medium.sync(file)
     }
 }
-
-use crate::change::FileChange;

@@ -8,7 +8,7 @@ use Rattle.room_disk.proofs.Recorded.{same_test, other_test}
 use Rattle.room_disk.proofs.Choices.{chosen, passed_over}
 use Rattle.room_disk.proofs.Moments.{keeps_same}
 use Rattle.room_fuse.specs.Held.{content_over, LeftOver, Fits, StaysBelow}
-use Rattle.room_fuse.specs.Past.{inner_at, held_at, LeftNow, images_at, IsMarked}
+use Rattle.room_fuse.specs.Past.{inner_at, held_at, LeftNow, images_at, StepsThrough, IsMarked}
 use Rattle.room_fuse.specs.Laws.{both, now_of, of_now}
 use Rattle.room_fuse.specs.declared.held.Held.{Held}
 use Rattle.room_fuse.specs.declared.past.Mark.{Mark}
@@ -57,12 +57,8 @@ module _ {D : Type 0} where
         }
 
     module _ (seen : D → Reads) where
-      abbrev pub StepsOf : ℕ → Step → List (Mark D) → D → Calls → List (Mark D) → D → Calls → Type 0
-      StepsOf file step past inner held ps later after =
-          StepsBetween file step (length past) (length ps) (images_at images moment past inner held) (images_at images moment ps later after) (content_over (seen inner) (reverse held)) (content_over (seen later) (reverse after))
-
       -- nothing was done
-      steps_none : (file : ℕ) (step : Step) → ((d : List ℕ) → step d d) → (past : List (Mark D)) (inner : D) (held : Calls) → StepsOf file step past inner held past inner held
+      steps_none : (file : ℕ) (step : Step) → ((d : List ℕ) → step d d) → (past : List (Mark D)) (inner : D) (held : Calls) → StepsThrough seen moment images file step past inner held past inner held
       steps_none file step same past inner held = record {
         later = omega arith;
         most = omega arith;
@@ -73,19 +69,19 @@ module _ {D : Type 0} where
         by_step = λ c left. (c, left, same c);
       }
 
-      pub steps_still : (file : ℕ) (step : Step) → ((d : List ℕ) → step d d) → (past ps : List (Mark D)) (inner : D) (held after : Calls) → ps ≡ past → after ≡ held → StepsOf file step past inner held ps inner after
+      pub steps_still : (file : ℕ) (step : Step) → ((d : List ℕ) → step d d) → (past ps : List (Mark D)) (inner : D) (held after : Calls) → ps ≡ past → after ≡ held → StepsThrough seen moment images file step past inner held ps inner after
       steps_still file step same past ps inner held after moved kept =
-          subst (λ (l : List (Mark D)). StepsOf file step past inner held l inner after) (sym moved)
-          (subst (λ (l : Calls). StepsOf file step past inner held past inner l) (sym kept) (steps_none file step same past inner held))
+          subst (λ (l : List (Mark D)). StepsThrough seen moment images file step past inner held l inner after) (sym moved)
+          (subst (λ (l : Calls). StepsThrough seen moment images file step past inner held past inner l) (sym kept) (steps_none file step same past inner held))
 
       -- a moment at which no image was added
       pub steps_sync : (file : ℕ) (past ps : List (Mark D)) (inner later : D) (held after : Calls) → IsMarked past inner held ps
           → ((f : ℕ) → content_over (seen later) (reverse after) f ≡ content_over (seen inner) (reverse held) f) → ((f : ℕ) (c : List ℕ) → LeftNow images moment later after f c → LeftNow images moment inner held f c)
-          → StepsOf file Same past inner held ps later after
+          → StepsThrough seen moment images file Same past inner held ps later after
       steps_sync file past ps inner later held after marked reads shrinks =
           let size = size_marked past ps inner held marked in
           let fewer : (f : ℕ) (c : List ℕ) → images_at images moment ps later after (length ps) f c → images_at images moment past inner held (length past) f c
-                = λ f c left. now_of images moment past inner held f c (shrinks f c (of_now images moment ps later after f c left)) in
+          = λ f c left. now_of images moment past inner held f c (shrinks f c (of_now images moment ps later after f c left)) in
           record {
             later = omega (arith, size);
             most = omega (arith, size);
@@ -98,14 +94,14 @@ module _ {D : Type 0} where
 
       -- a moment at which one call more is held back
       pub steps_more : (x : Held) (past ps : List (Mark D)) (inner : D) (held after : Calls) → IsMarked past inner held ps → after ≡ held ++ x ∷ [] → place x.change ≤ length (content_over (seen inner) (reverse held) x.file)
-          → StepsOf x.file (ChangedInPart x.change) past inner held ps inner after
+          → StepsThrough seen moment images x.file (ChangedInPart x.change) past inner held ps inner after
       steps_more x past ps inner held after marked longer within =
           let size = size_marked past ps inner held marked in
           let turned : reverse after ≡ x ∷ reverse held = ap reverse longer ∙ newest held x in
           let there : (f : ℕ) (c : List ℕ) → images_at images moment ps inner after (length ps) f c → LeftOver (images inner (moment inner)) (x ∷ reverse held) f c
-                = λ f c left. subst (λ (l : Calls). LeftOver (images inner (moment inner)) l f c) turned (of_now images moment ps inner after f c left) in
+          = λ f c left. subst (λ (l : Calls). LeftOver (images inner (moment inner)) l f c) turned (of_now images moment ps inner after f c left) in
           let here : content_over (seen inner) (reverse after) x.file ≡ changed x.change (content_over (seen inner) (reverse held) x.file)
-                = ap (λ (l : Calls). content_over (seen inner) l x.file) turned ∙ rw (same_test x.file x.file refl) refl in
+          = ap (λ (l : Calls). content_over (seen inner) l x.file) turned ∙ rw (same_test x.file x.file refl) refl in
           record {
             later = omega (arith, size);
             most = omega (arith, size);

@@ -7,13 +7,13 @@ use Rattle.room_disk.specs.declared.disk.Stop.{Stop}
 use Rattle.room_disk.specs.declared.disk.Stop.TheVariants.{Old, New, Torn}
 use Rattle.room_disk.proofs.Moments.{keeps_same}
 use Rattle.room_fuse.specs.Held.{content_over, left_by, torn, Others, Rest}
-use Rattle.room_fuse.specs.Past.{LeftNow, images_at, IsMarked}
+use Rattle.room_fuse.specs.Past.{LeftNow, images_at, StepsThrough, IsMarked}
 use Rattle.room_fuse.specs.Mirrors.{CountsDownBetween, IsCounted}
 use Rattle.room_fuse.specs.Laws.{counts_same, now_of, of_now, inner_is_left, inner_here, mirrored_same, MirroredTo}
 use Rattle.room_fuse.specs.declared.past.Mark.{Mark}
 use Rattle.room_fuse.proofs.Lists.{Calls, Reads, over_skip, over_more, content_same, content_skip, others_reverse}
 use Rattle.room_fuse.proofs.Rests.{rest_settled}
-use Rattle.room_fuse.proofs.Holding.{StepsOf, past_stays, size_marked}
+use Rattle.room_fuse.proofs.Holding.{past_stays, size_marked}
 use Rattle.room_fuse.proofs.Passing.{still}
 
 -- What settling leaves, behind a sync.
@@ -96,8 +96,12 @@ module _ {D : Type 0} (images : D → Images) (moment : D → ℕ) where
         keeps = keeps;
         inner_later = within.later;
         inner_keeps = within.keeps;
-        each = λ m image from till left. (length past, omega arith, omega (arith, size),
-            λ f. keeps.kept (length past) f (image f) (omega arith) (now_of images moment past inner held f (image f) (within.each m f (image f) from till (left f))));
+        each = λ m image from till left. (
+          length past,
+          omega arith,
+          omega (arith, size),
+          λ f. keeps.kept (length past) f (image f) (omega arith) (now_of images moment past inner held f (image f) (within.each m f (image f) from till (left f))),
+        );
       }
 
   -- the same where the inner disk wasn't called
@@ -106,9 +110,9 @@ module _ {D : Type 0} (images : D → Images) (moment : D → ℕ) where
       (still (moment inner) (images inner) (LeftNow images moment inner held) (inner_is_left (images inner (moment inner)) (reverse held)))
 
   pub mirrored_steps : (seen : D → Reads) (file : ℕ) (step : List ℕ → List ℕ → Type 0) (past ps : List (Mark D)) (inner later : D) (held after : Calls) → later ≡ inner
-      → StepsOf images moment seen file step past inner held ps later after → MirroredTo images moment past inner held ps later after
+      → StepsThrough seen moment images file step past inner held ps later after → MirroredTo images moment past inner held ps later after
   mirrored_steps seen file step past ps inner later held after same steps = subst (λ d. MirroredTo images moment past inner held ps d after) (sym same) (
-      let goes = subst (λ d. StepsOf images moment seen file step past inner held ps d after) same steps in
+      let goes = subst (λ d. StepsThrough seen moment images file step past inner held ps d after) same steps in
       record {
         later = goes.later;
         keeps = goes.keeps;

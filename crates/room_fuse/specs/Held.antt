@@ -13,7 +13,8 @@ use Rattle.room_fuse.specs.declared.held.Held.{Held}
 -- what a read gives of a file
 abbrev pub content_over : (ℕ → List ℕ) → List Held → ℕ → List ℕ
 content_over inner [] f = inner f
-content_over inner (x ∷ older) f = cond (x.file == f) (changed x.change (content_over inner older f)) (content_over inner older f)
+content_over inner (x ∷ older) f =
+    cond (x.file == f) (changed x.change (content_over inner older f)) (content_over inner older f)
 
 -- the bytes of a file with the calls made on them, the oldest first
 abbrev pub applied : List ℕ → ℕ → List Held → List ℕ
@@ -23,7 +24,8 @@ applied bytes f (x ∷ xs) = applied (cond (x.file == f) (changed x.change bytes
 -- what a stop may leave of a file
 abbrev pub LeftOver : (ℕ → List ℕ → Type 0) → List Held → ℕ → List ℕ → Type 0
 LeftOver inner [] f c = inner f c
-LeftOver inner (x ∷ older) f c = Chosen (x.file == f) (Follows (ChangedInPart x.change) (LeftOver inner older f) c) (LeftOver inner older f c)
+LeftOver inner (x ∷ older) f c =
+    Chosen (x.file == f) (Follows (ChangedInPart x.change) (LeftOver inner older f) c) (LeftOver inner older f c)
 
 -- each call finds its place
 abbrev pub Fits : (ℕ → List ℕ) → List Held → Type 0

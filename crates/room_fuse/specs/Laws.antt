@@ -207,11 +207,11 @@ mirrors_then before mid now was so is inner_before inner_mid inner_now inner_was
   inner_keeps = keeps_then inner_before inner_mid inner_was inner_so inner_is first.inner_later first.inner_keeps second.inner_keeps;
   each = λ m image from till left. ⊎_elim
       (λ (early : m < inner_mid).
-        let there = first.each m image from (le_of_lt early) (λ f. second.inner_keeps.nothing_else m f (image f) (le_of_lt early) (left f)) in
-        (there.0, there.1, le_trans there.2 second.later, λ f. second.keeps.kept there.0 f (image f) there.2 (there.3 f)))
+      let there = first.each m image from (le_of_lt early) (λ f. second.inner_keeps.nothing_else m f (image f) (le_of_lt early) (left f)) in
+      (there.0, there.1, le_trans there.2 second.later, λ f. second.keeps.kept there.0 f (image f) there.2 (there.3 f)))
       (λ (late : inner_mid ≤ m).
-        let there = second.each m image late till left in
-        (there.0, le_trans first.later there.1, there.2, there.3))
+      let there = second.each m image late till left in
+      (there.0, le_trans first.later there.1, there.2, there.3))
       (cases_lt m inner_mid);
 }
 
@@ -262,4 +262,4 @@ module _ {D : Type 0} where
         → MirroredTo past inner held ps later after → MirroredTo ps later after qs last then → MirroredTo past inner held qs last then
     mirrored_then past inner held ps later after qs last then first second =
         mirrors_then (length past) (length ps) (length qs) (images_at images moment past inner held) (images_at images moment ps later after) (images_at images moment qs last then)
-          (moment inner) (moment later) (moment last) (images inner) (images later) (images last) first second
+        (moment inner) (moment later) (moment last) (images inner) (images later) (images last) first second

@@ -1,7 +1,6 @@
 //! The calls of a fuse.
 ghost use Rattle.std.specs.Prelude.{◌≡◌, ◌+◌, ◌^◌, ◌≤◌, ℕ, List, length, reverse, true};
-ghost use Rattle.room_fuse.specs.Held.{content_over, left_by};
-ghost use Rattle.room_fuse.specs.Past.{images_at};
+ghost use Rattle.room_fuse.specs.Past.{through, left_through, images_at};
 ghost use Rattle.room_fuse.specs.Mirrors.{CountsDownBetween};
 ghost use Rattle.room_fuse.specs.Laws.{content_below, below_reverse, content_now, settled_now, counts_same, counts_then, MirroredTo, mirrored_same, mirrored_then};
 
@@ -16,11 +15,11 @@ impl<D: Disk> Disk for Fused<D> {
 
     ghost may_run_out = { true };
 
-    ghost seen = { λ d f. content_over (D.seen d.inner) (reverse d.held.items) f };
+    ghost seen = { λ d. through D.seen d.inner d.held.items };
 
     ghost moment = { λ d. length d.past.items };
 
-    ghost images = { λ d m f c. images_at D.images D.moment d.past.items d.inner d.held.items m f c };
+    ghost images = { λ d. images_at D.images D.moment d.past.items d.inner d.held.items };
 
     ghost faults = { λ d. D.faults d.inner + d.refused };
 
@@ -30,24 +29,35 @@ impl<D: Disk> Disk for Fused<D> {
 
     ghost stopped = { λ d. d.fired };
 
-    ghost leaves = { λ d how f. left_by how (D.seen d.inner) (reverse d.held.items) f };
+    ghost leaves = { λ d. left_through D.seen d.inner d.held.items };
 
     ghost came = { λ a b. (D.came a.inner b.inner)
         × CountsDownBetween a.fired a.armed (length a.past.items) a.how b.fired b.armed (length b.past.items) b.how
-        × (D.tells ≡ true → MirroredTo D.images D.moment a.past.items a.inner a.held.items b.past.items b.inner b.held.items) };
+        × (D.tells ≡ true → MirroredTo D.images D.moment a.past.items a.inner a.held.items
+        b.past.items b.inner b.held.items) };
 
-    ghost came_same = { λ a. (D.came_same a.inner, counts_same a.fired a.armed (length a.past.items) a.how,
-        λ told. mirrored_same D.images D.moment a.past.items a.inner a.held.items) };
+    ghost came_same = { λ a. (
+      D.came_same a.inner,
+      counts_same a.fired a.armed (length a.past.items) a.how,
+      λ told. mirrored_same D.images D.moment a.past.items a.inner a.held.items,
+    ) };
 
-    ghost came_then = { λ a b c first second. (D.came_then a.inner b.inner c.inner first.0 second.0,
-        counts_then a.fired a.armed (length a.past.items) a.how b.fired b.armed (length b.past.items) b.how c.fired c.armed (length c.past.items) c.how first.1 second.1,
-        λ told. mirrored_then D.images D.moment a.past.items a.inner a.held.items b.past.items b.inner b.held.items c.past.items c.inner c.held.items (first.2 told) (second.2 told)) };
+    ghost came_then = { λ a b c first second. (
+      D.came_then a.inner b.inner c.inner first.0 second.0,
+      counts_then a.fired a.armed (length a.past.items) a.how b.fired b.armed (length b.past.items) b.how
+          c.fired c.armed (length c.past.items) c.how first.1 second.1,
+      λ told. mirrored_then D.images D.moment a.past.items a.inner a.held.items b.past.items b.inner b.held.items
+          c.past.items c.inner c.held.items (first.2 told) (second.2 told),
+    ) };
 
-    ghost seen_is_small = { λ d f told. content_below (D.seen d.inner) (reverse d.held.items) (d.fits told) (below_reverse d.held.items d.below) (λ n. D.seen_is_small d.inner n told) f };
+    ghost seen_is_small = { λ d f told. content_below (D.seen d.inner) (reverse d.held.items) (d.fits told)
+        (below_reverse d.held.items d.below) (λ n. D.seen_is_small d.inner n told) f };
 
-    ghost seen_is_image = { λ d f told. content_now D.images D.moment D.seen d.past.items d.inner d.held.items (d.fits told) (λ n. D.seen_is_image d.inner n told) f };
+    ghost seen_is_image = { λ d f told. content_now D.images D.moment D.seen d.past.items d.inner d.held.items
+        (d.fits told) (λ n. D.seen_is_image d.inner n told) f };
 
-    ghost left_is_image = { λ d how f told. settled_now D.images D.moment D.seen d.past.items d.inner d.held.items (d.fits told) (λ n. D.seen_is_image d.inner n told) how f };
+    ghost left_is_image = { λ d how f told. settled_now D.images D.moment D.seen d.past.items d.inner d.held.items
+        (d.fits told) (λ n. D.seen_is_image d.inner n told) how f };
 
     fn len(&mut self, file: u32) -> Result<u64, DiskFault> {
         admit(self.fired, &mut self.refused)?;
@@ -56,7 +66,14 @@ impl<D: Disk> Disk for Fused<D> {
 
     fn read(&mut self, file: u32, at: u64, into: &mut [u8]) -> Result<(), DiskFault> {
         admit(self.fired, &mut self.refused)?;
-        read_over(self.alloc, &mut self.inner, self.held.as_slice(), file, at, into)
+        read_over(
+            self.alloc,
+            &mut self.inner,
+            self.held.as_slice(),
+            file,
+            at,
+            into,
+        )
     }
 
     fn write_at(&mut self, file: u32, at: u64, bytes: &[u8]) -> Result<(), DiskFault> {

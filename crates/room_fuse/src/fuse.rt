@@ -1,11 +1,10 @@
 //! A disk that holds writes and cuts back from an inner disk, and stops at a call.
 ghost use Rattle.std.specs.Prelude.{◌≡◌, ◌≤◌, ◌<◌, ◌+◌, ◌-◌, ◌^◌, ◌++◌, ◌∷◌, [], ℕ, length, reverse, OnOk, OnErr, IfErr, IsErrOf, true, false, vec_len, vec_capacity};
 ghost use Rattle.room_edge.specs.Causes.{Rose};
-ghost use Rattle.room_disk.specs.Model.{StepsBetween};
 ghost use Rattle.room_disk.specs.Changes.{changed, ChangedInPart, place, reach};
 ghost use Rattle.room_disk.specs.Stops.{IsDone, Settles};
-ghost use Rattle.room_fuse.specs.Held.{content_over, Fits, StaysBelow, left_by, settled_change};
-ghost use Rattle.room_fuse.specs.Past.{images_at};
+ghost use Rattle.room_fuse.specs.Held.{Fits, StaysBelow, settled_change};
+ghost use Rattle.room_fuse.specs.Past.{through, left_through, StepsThrough};
 ghost use Rattle.room_fuse.specs.Mirrors.{CountsDownBetween, IsCounted};
 ghost use Rattle.room_fuse.specs.Laws.{told_fits_prop, below_prop};
 
@@ -14,8 +13,8 @@ use crate::past::{Mark, remember};
 use room_disk::{Disk, DiskFault, FileChange, Stop};
 use std::alloc::Global;
 
-/// A disk over an inner one. Writes and cuts of a file are held back until it is synced. Once it was armed, a call is the stop:
-/// from there on every call fails, until the stop is settled.
+/// A disk over an inner one. Writes and cuts of a file are held back until it is synced. Once it was armed, a call is
+/// the stop: from there on every call fails, until the stop is settled.
 #[derive(Drop)]
 pub struct Fused<D: Disk> {
     pub inner: D,
@@ -80,32 +79,33 @@ fn add(calls: &mut Vec<Held>, file: u32, change: FileChange)
 impl<D: Disk> Fused<D> {
     /// Holds a change back. The one at which it stops is held back too.
     pub(crate) fn hold(&mut self, file: u32, change: FileChange) -> Result<(), DiskFault>
-        requires place { D.tells ≡ true → place change ≤ length (content_over (D.seen self.old.inner) (reverse self.old.held.items) file) }
+        requires place { D.tells ≡ true
+            → place change ≤ length (through D.seen self.old.inner self.old.held.items file) }
         requires reach { reach change < 2 ^ 62 }
-        ensures done { OnOk result (content_over (D.seen self.new.inner) (reverse self.new.held.items) file
-            ≡ changed change (content_over (D.seen self.old.inner) (reverse self.old.held.items) file)) }
+        ensures done { OnOk result (through D.seen self.new.inner self.new.held.items file
+            ≡ changed change (through D.seen self.old.inner self.old.held.items file)) }
         ensures counted { OnOk result (length self.new.past.items ≡ length self.old.past.items + 1) }
-        ensures steps { D.tells ≡ true → StepsBetween file (ChangedInPart change) (length self.old.past.items) (length self.new.past.items)
-            (images_at D.images D.moment self.old.past.items self.old.inner self.old.held.items)
-            (images_at D.images D.moment self.new.past.items self.new.inner self.new.held.items)
-            (content_over (D.seen self.old.inner) (reverse self.old.held.items)) (content_over (D.seen self.new.inner) (reverse self.new.held.items)) }
+        ensures steps { D.tells ≡ true → StepsThrough D.seen D.moment D.images file (ChangedInPart change)
+            self.old.past.items self.old.inner self.old.held.items
+            self.new.past.items self.new.inner self.new.held.items }
         ensures held { self.old.fired ≡ false → IsDone result self.new.fired → Settles file (settled_change change)
-            (λ how. left_by how (D.seen self.old.inner) (reverse self.old.held.items)) (λ how. left_by how (D.seen self.new.inner) (reverse self.new.held.items)) }
+            (left_through D.seen self.old.inner self.old.held.items)
+            (left_through D.seen self.new.inner self.new.held.items) }
         ensures counts { CountsDownBetween self.old.fired self.old.armed (length self.old.past.items) self.old.how
             self.new.fired self.new.armed (length self.new.past.items) self.new.how }
         ensures inner { self.new.inner ≡ self.old.inner }
         ensures later { self.old.refused ≤ self.new.refused }
-        ensures failed { IsErrOf result DiskFault.Failed → (self.new.fired ≡ true) × Rose self.old.refused self.new.refused }
+        ensures failed { IsErrOf result DiskFault.Failed
+            → (self.new.fired ≡ true) × Rose self.old.refused self.new.refused }
         // It meets the stop.
         ensures fails { self.new.fired ≡ true → IsErrOf result DiskFault.Failed }
-        ensures at_stop { self.old.fired ≡ false → self.new.fired ≡ true → length self.new.past.items ≡ length self.old.past.items + 1 }
+        ensures at_stop { self.old.fired ≡ false → self.new.fired ≡ true
+            → length self.new.past.items ≡ length self.old.past.items + 1 }
         ensures stays { self.old.fired ≡ true → self.new.fired ≡ true }
         ensures behind { self.old.fired ≡ true → self.new.held ≡ self.old.held }
     {
         admit(self.fired, &mut self.refused)?;
-        if self.held.reserve(1).is_err() {
-            return Err(DiskFault::Memory);
-        }
+        self.held.reserve(1)?;
         remember(&mut self.past, &self.inner, &self.held)?;
         add(&mut self.held, file, change);
         count_down(&mut self.armed, &mut self.fired, &mut self.refused)

@@ -2,7 +2,8 @@
 ghost use Rattle.std.specs.Prelude.{◌≡◌, ◌≤◌, ◌<◌, ◌+◌, ◌^◌, ℕ, List, length, take, drop, reverse, OnOk, OnErr, IfOk, IfErr, IsTrue, true};
 ghost use Rattle.room_disk.specs.Causes.{HasCause};
 ghost use Rattle.room_disk.specs.Stops.{Stays};
-ghost use Rattle.room_fuse.specs.Held.{content_over, applied, StaysBelow, Others};
+ghost use Rattle.room_fuse.specs.Held.{applied, StaysBelow, Others};
+ghost use Rattle.room_fuse.specs.Past.{through};
 
 use crate::held::Held;
 use crate::pass::index_of;
@@ -61,9 +62,7 @@ fn whole<D: Disk>(alloc: Global, disk: &mut D, file: u32) -> Result<Vec<u8>, Dis
 {
     let len = disk.len(file)?;
     let mut bytes = Vec::new(alloc);
-    if bytes.resize(len as usize, 0).is_err() {
-        return Err(DiskFault::Memory);
-    }
+    bytes.resize(len as usize, 0)?;
     disk.read(file, 0, bytes.as_mut_slice())?;
     Ok(bytes)
 }
@@ -75,7 +74,7 @@ fn load<D: Disk>(
     held: &[Held],
     file: u32,
 ) -> Result<Vec<u8>, DiskFault>
-    ensures bytes { D.tells ≡ true → IfOk result (λ v. v.items ≡ content_over (D.seen disk.old) (reverse held.now) file) }
+    ensures bytes { D.tells ≡ true → IfOk result (λ v. v.items ≡ through D.seen disk.old held.now file) }
     ensures stays { D.tells ≡ true → Stays D.seen D.moment D.images D.stopped D.leaves disk.old disk.new }
     ensures came { D.came disk.old disk.new }
     ensures cause { HasCause true D.faults D.inner_faults D.stopped disk.old disk.new result }
@@ -88,7 +87,7 @@ fn load<D: Disk>(
 /// The length of a file with what is held back of it.
 pub(crate) fn length_of<D: Disk>(disk: &mut D, held: &[Held], file: u32) -> Result<u64, DiskFault>
     requires { StaysBelow held.now }
-    ensures length { D.tells ≡ true → IfOk result (λ n. n ≡ length (content_over (D.seen disk.old) (reverse held.now) file)) }
+    ensures length { D.tells ≡ true → IfOk result (λ n. n ≡ length (through D.seen disk.old held.now file)) }
     ensures bound { IfOk result (λ n. n < 2 ^ 62) }
     ensures stays { D.tells ≡ true → Stays D.seen D.moment D.images D.stopped D.leaves disk.old disk.new }
     ensures came { D.came disk.old disk.new }
@@ -107,8 +106,9 @@ pub(crate) fn read_over<D: Disk>(
     at: u64,
     into: &mut [u8],
 ) -> Result<(), DiskFault>
-    requires { D.tells ≡ true → at + length into.old ≤ length (content_over (D.seen disk.old) (reverse held.now) file) }
-    ensures bytes { D.tells ≡ true → OnOk result (into.new ≡ take (length into.old) (drop at (content_over (D.seen disk.old) (reverse held.now) file))) }
+    requires { D.tells ≡ true → at + length into.old ≤ length (through D.seen disk.old held.now file) }
+    ensures bytes { D.tells ≡ true
+        → OnOk result (into.new ≡ take (length into.old) (drop at (through D.seen disk.old held.now file))) }
     ensures stays { D.tells ≡ true → Stays D.seen D.moment D.images D.stopped D.leaves disk.old disk.new }
     ensures came { D.came disk.old disk.new }
     ensures cause { HasCause true D.faults D.inner_faults D.stopped disk.old disk.new result }

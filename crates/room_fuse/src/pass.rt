@@ -83,7 +83,8 @@ pub(crate) fn pass_all<D: Disk>(
     ensures spares { D.tells ≡ true → Spares D.seen D.moment D.images file disk.old disk.new }
     ensures rest { Rest file held.old.items held.new.items }
     ensures none { OnOk result (Others file held.new.items) }
-    ensures durable { D.tells ≡ true → OnOk result (Only (D.seen disk.new file) (D.images disk.new (D.moment disk.new) file)) }
+    ensures durable { D.tells ≡ true
+        → OnOk result (Only (D.seen disk.new file) (D.images disk.new (D.moment disk.new) file)) }
     ensures came { D.came disk.old disk.new }
     ensures cause { HasCause D.may_run_out D.faults D.inner_faults D.stopped disk.old disk.new result }
 {
@@ -99,7 +100,8 @@ pub(crate) fn pass_whole<D: Disk>(disk: &mut D, held: &mut Vec<Held>) -> Result<
     ensures below { StaysBelow held.old.items → StaysBelow held.new.items }
     ensures torn { torn held.old.items ≡ held.old.items → torn held.new.items ≡ held.new.items }
     ensures empty { OnOk result (held.new.items ≡ []) }
-    ensures durable { D.tells ≡ true → OnOk result ((f : ℕ) → (Others f held.old.items → ⊥) → Only (D.seen disk.new f) (D.images disk.new (D.moment disk.new) f)) }
+    ensures durable { D.tells ≡ true → OnOk result ((f : ℕ) → (Others f held.old.items → ⊥)
+        → Only (D.seen disk.new f) (D.images disk.new (D.moment disk.new) f)) }
     ensures came { D.came disk.old disk.new }
     ensures cause { HasCause D.may_run_out D.faults D.inner_faults D.stopped disk.old disk.new result }
 {

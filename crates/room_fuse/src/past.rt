@@ -27,8 +27,6 @@ pub(crate) fn remember<D>(
         inner: Snapshot::of(inner),
         held: Snapshot::of(held),
     };
-    if past.push(here).is_err() {
-        return Err(DiskFault::Memory);
-    }
+    past.push(here)?;
     Ok(())
 }

@@ -1,9 +1,8 @@
 //! How a fuse is made, armed and settled.
-ghost use Rattle.std.specs.Prelude.{◌≡◌, ◌≤◌, [], ℕ, List, length, reverse, true, false, OnOk, OnErr, IsErrOf};
+ghost use Rattle.std.specs.Prelude.{◌≡◌, ◌≤◌, [], ℕ, List, length, reverse, true, false, OnOk, OnErr, IsErrOf, refl};
 ghost use Rattle.room_edge.specs.Causes.{Rose};
-ghost use Rattle.room_disk.specs.Model.{Within};
-ghost use Rattle.room_disk.specs.Stops.{Stays};
 ghost use Rattle.room_fuse.specs.Held.{ready, Others};
+ghost use Rattle.room_fuse.specs.Past.{left_through};
 ghost use Rattle.room_fuse.specs.Mirrors.{settled_by};
 ghost use Rattle.room_disk.specs.declared.disk.Stop.TheVariants.{New};
 ghost use Rattle.room_fuse.specs.Laws.{MirroredTo, mirrored_same, mirrored_then, inner_here, bare_left, bare_images};
@@ -38,41 +37,52 @@ impl<D: Disk> Stopping for Fused<D> {
 
     ghost way = { λ d. d.how };
 
-    ghost writes = { λ d how f. Others f (ready how d.held.items) → ⊥ };
+    ghost ends = { λ d. settled_by d.fired d.how };
+
+    ghost writes = { λ d f. Others f (ready (settled_by d.fired d.how) d.held.items) → ⊥ };
 
     ghost plain = { λ d. (d.held.items ≡ []) × (d.armed ≡ 0) × (d.fired ≡ false) };
 
     ghost went = { λ a b. (D.came a.inner b.inner)
-        × (D.tells ≡ true → MirroredTo D.images D.moment a.past.items a.inner a.held.items b.past.items b.inner b.held.items) };
+        × (D.tells ≡ true → MirroredTo D.images D.moment a.past.items a.inner a.held.items
+        b.past.items b.inner b.held.items) };
 
-    ghost went_same = { λ a. (D.came_same a.inner, λ told. mirrored_same D.images D.moment a.past.items a.inner a.held.items) };
+    ghost went_same = { λ a. (
+      D.came_same a.inner,
+      λ told. mirrored_same D.images D.moment a.past.items a.inner a.held.items,
+    ) };
 
-    ghost went_then = { λ a b c first second. (D.came_then a.inner b.inner c.inner first.0 second.0,
-        λ told. mirrored_then D.images D.moment a.past.items a.inner a.held.items b.past.items b.inner b.held.items c.past.items c.inner c.held.items (first.1 told) (second.1 told)) };
+    ghost went_then = { λ a b c first second. (
+      D.came_then a.inner b.inner c.inner first.0 second.0,
+      λ told. mirrored_then D.images D.moment a.past.items a.inner a.held.items b.past.items b.inner b.held.items
+          c.past.items c.inner c.held.items (first.1 told) (second.1 told),
+    ) };
 
     ghost went_by = { λ a b came. (came.0, came.2) };
 
     ghost mirrors = { λ a b told went. went.1 told };
 
-    ghost inner_is_image = { λ d f c told left. inner_here D.images D.moment d.past.items d.inner d.held.items f c left };
+    ghost inner_is_image = { λ d f c told left.
+        inner_here D.images D.moment d.past.items d.inner d.held.items f c left };
 
     ghost counts = { λ a b came. came.1 };
 
+    ghost ends_by = { λ d. refl };
+
     ghost plain_is_bare = { λ d plain. record {
-        running = plain.2;
-        unarmed = plain.1;
-        reads = λ f. bare_left (D.seen d.inner) d.held.items plain.0 New f;
-        left = λ how f. bare_left (D.seen d.inner) d.held.items plain.0 how f;
-        images_left = λ f c left. bare_images D.images D.moment d.past.items d.inner d.held.items plain.0 f c left;
+      running = plain.2;
+      unarmed = plain.1;
+      reads = λ f. bare_left (D.seen d.inner) d.held.items plain.0 New f;
+      left = λ how f. bare_left (D.seen d.inner) d.held.items plain.0 how f;
+      images_left = λ f c left. bare_images D.images D.moment d.past.items d.inner d.held.items plain.0 f c left;
     } };
 
     fn arm(&mut self, calls: u64, how: Stop) {
-        self.armed = calls;
-        self.how = how;
+        Fused::arm(self, calls, how)
     }
 
     fn fired(&self) -> bool {
-        self.fired
+        Fused::fired(self)
     }
 
     fn settle(&mut self) -> Result<(), DiskFault> {
@@ -108,31 +118,28 @@ impl<D: Disk> Fused<D> {
     /// Lets the call of that number from now on, of the writes, cuts and syncs, be the stop.
     pub fn arm(&mut self, calls: u64, how: Stop)
         requires { 1 ≤ calls }
-        ensures armed { ⟦<Fused<D> as Stopping>⟧.armed self.new ≡ calls }
-        ensures way { ⟦<Fused<D> as Stopping>⟧.way self.new ≡ how }
-        ensures stays { Stays ⟦<Fused<D> as Disk>⟧.seen ⟦<Fused<D> as Disk>⟧.moment ⟦<Fused<D> as Disk>⟧.images ⟦<Fused<D> as Disk>⟧.stopped ⟦<Fused<D> as Disk>⟧.leaves self.old self.new }
-        ensures faults { ⟦<Fused<D> as Disk>⟧.faults self.new ≡ ⟦<Fused<D> as Disk>⟧.faults self.old }
-        ensures went { ⟦<Fused<D> as Stopping>⟧.went self.old self.new }
+        ensures { self.new ≡ record self.old { armed = calls; how = how } }
     {
-        Stopping::arm(self, calls, how)
+        self.armed = calls;
+        self.how = how;
     }
 
     /// Whether it has stopped.
     pub fn fired(&self) -> bool
-        ensures { result ≡ ⟦<Fused<D> as Disk>⟧.stopped self.now }
+        ensures { result ≡ self.now.fired }
     {
-        Stopping::fired(self)
+        self.fired
     }
 
-    /// Ends the stop in its way, or, where none came, drops what is held back; syncs each file that it wrote to, and disarms.
+    /// Ends the stop in its way, or, where none came, drops what is held back. Each file that it wrote to is synced, and
+    /// the disk is disarmed.
     pub fn settle(&mut self) -> Result<(), DiskFault>
-        ensures left { D.tells ≡ true → OnOk result ((f : ℕ) → ⟦<Fused<D> as Disk>⟧.seen self.new f
-            ≡ ⟦<Fused<D> as Disk>⟧.leaves self.old (settled_by (⟦<Fused<D> as Disk>⟧.stopped self.old) (⟦<Fused<D> as Stopping>⟧.way self.old)) f) }
+        ensures left { D.tells ≡ true → OnOk result ((f : ℕ) → D.seen self.new.inner f
+            ≡ left_through D.seen self.old.inner self.old.held.items (settled_by self.old.fired self.old.how) f) }
         ensures plain { OnOk result (⟦<Fused<D> as Stopping>⟧.plain self.new) }
-        ensures still { OnErr result (⟦<Fused<D> as Disk>⟧.stopped self.new ≡ ⟦<Fused<D> as Disk>⟧.stopped self.old) }
-        ensures within { D.tells ≡ true → Within ⟦<Fused<D> as Disk>⟧.moment ⟦<Fused<D> as Disk>⟧.images self.old self.new (⟦<Fused<D> as Disk>⟧.images self.old (⟦<Fused<D> as Disk>⟧.moment self.old)) }
+        ensures still { OnErr result (self.new.fired ≡ self.old.fired) }
         ensures went { ⟦<Fused<D> as Stopping>⟧.went self.old self.new }
-        ensures failed { IsErrOf result DiskFault.Failed → Rose (⟦<Fused<D> as Disk>⟧.inner_faults self.old) (⟦<Fused<D> as Disk>⟧.inner_faults self.new) }
+        ensures failed { IsErrOf result DiskFault.Failed → Rose (D.faults self.old.inner) (D.faults self.new.inner) }
     {
         Stopping::settle(self)
     }

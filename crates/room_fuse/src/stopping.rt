@@ -26,8 +26,11 @@ pub trait Stopping: Disk {
     /// How its stop is settled.
     ghost way: { Self → Way };
 
-    /// Whether settling in this way writes to a file.
-    ghost writes: { Self → Way → ℕ → Type 0 };
+    /// How settling it now goes: in its way where it has stopped, and else without what is held back.
+    ghost ends: { Self → Way };
+
+    /// Whether settling it now writes to a file.
+    ghost writes: { Self → ℕ → Type 0 };
 
     /// Whether it holds nothing back, isn't armed and hasn't stopped.
     ghost plain: { Self → Type 0 };
@@ -51,21 +54,24 @@ pub trait Stopping: Disk {
 
     /// Ends the stop in its way, or, where none came, drops what is held back; and disarms.
     fn settle(&mut self) -> Result<(), DiskFault>
-        ensures left { Self.tells ≡ true → OnOk result ((f : ℕ) → Self.seen self.new f ≡ Self.leaves self.old (settled_by (Self.stopped self.old) (way self.old)) f) }
+        ensures left { Self.tells ≡ true
+            → OnOk result ((f : ℕ) → Self.seen self.new f ≡ Self.leaves self.old (ends self.old) f) }
         ensures plain { OnOk result (plain self.new) }
         // Each file that it wrote to was synced.
-        ensures durable { Self.tells ≡ true → OnOk result ((f : ℕ) → writes self.old (settled_by (Self.stopped self.old) (way self.old)) f
+        ensures durable { Self.tells ≡ true → OnOk result ((f : ℕ) → writes self.old f
             → Only (Self.seen self.new f) (Self.images self.new (Self.moment self.new) f)) }
         // After an `Err` it can be settled again, to the same end.
         ensures still { OnErr result ((Self.stopped self.new ≡ Self.stopped self.old) × (way self.new ≡ way self.old)) }
-        ensures again { Self.tells ≡ true → OnErr result ((f : ℕ) → Self.leaves self.new (settled_by (Self.stopped self.new) (way self.new)) f
-            ≡ Self.leaves self.old (settled_by (Self.stopped self.old) (way self.old)) f) }
+        ensures again { Self.tells ≡ true → OnErr result ((f : ℕ) → Self.leaves self.new (ends self.new) f
+            ≡ Self.leaves self.old (ends self.old) f) }
         // Each image, at each moment within, is one that the stop may leave.
-        ensures within { Self.tells ≡ true → Within Self.moment Self.images self.old self.new (Self.images self.old (Self.moment self.old)) }
+        ensures within { Self.tells ≡ true
+            → Within Self.moment Self.images self.old self.new (Self.images self.old (Self.moment self.old)) }
         ensures went { went self.old self.new }
         ensures later { Self.faults self.old ≤ Self.faults self.new }
         ensures inner_later { Self.inner_faults self.old ≤ Self.inner_faults self.new }
-        ensures failed { IsErrOf result DiskFault.Failed → Rose (Self.inner_faults self.old) (Self.inner_faults self.new) };
+        ensures failed { IsErrOf result DiskFault.Failed
+            → Rose (Self.inner_faults self.old) (Self.inner_faults self.new) };
 
     ghost went_same: { (a : Self) → went a a };
 
@@ -73,11 +79,17 @@ pub trait Stopping: Disk {
 
     ghost went_by: { (a b : Self) → Self.came a b → went a b };
 
-    ghost mirrors: { (a b : Self) → Self.tells ≡ true → went a b → Mirrors Self.moment Self.images inner_moment inner_images a b };
+    ghost mirrors: { (a b : Self) → Self.tells ≡ true → went a b
+        → Mirrors Self.moment Self.images inner_moment inner_images a b };
 
-    ghost inner_is_image: { (d : Self) (f : ℕ) (c : List ℕ) → Self.tells ≡ true → inner_images d (inner_moment d) f c → Self.images d (Self.moment d) f c };
+    ghost inner_is_image: { (d : Self) (f : ℕ) (c : List ℕ) → Self.tells ≡ true
+        → inner_images d (inner_moment d) f c → Self.images d (Self.moment d) f c };
 
     ghost counts: { (a b : Self) → Self.came a b → CountsDown Self.stopped armed Self.moment way a b };
 
-    ghost plain_is_bare: { (d : Self) → plain d → IsBare Self.seen Self.moment Self.images Self.stopped Self.leaves inner_seen inner_moment inner_images armed d };
+    ghost ends_by: { (d : Self) → ends d ≡ settled_by (Self.stopped d) (way d) };
+
+    ghost plain_is_bare: { (d : Self) → plain d
+        → IsBare Self.seen Self.moment Self.images Self.stopped Self.leaves
+        inner_seen inner_moment inner_images armed d };
 }

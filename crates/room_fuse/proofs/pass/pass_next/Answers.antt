@@ -50,7 +50,7 @@ returns-clause-passed g c told =
     let there : c.index.result.now ≡ slice_index_or c.args.held.now.items c.index_of-i.result c.index.result.now = search rules in
     let at = first_at held c.args.file c.index_of-i.result c.index.result.now index within there in
     passed d.seen d.moment d.images held c.args.file c.index.result.now at c.args.disk.now c.pass.new.disk (c.pass.ensures.steps told) (c.requires told)
-      c.remove.new.self.items (without held c.remove.new.self.items c.args.file c.index_of-i.result c.index.result.now at index c.remove.ensures.by_index.2) (c.in_ok-pass.ensures.done told)
+    c.remove.new.self.items (without held c.remove.new.self.items c.args.file c.index_of-i.result c.index.result.now at index c.remove.ensures.by_index.2) (c.in_ok-pass.ensures.done told)
 
 pub returns-clause-spares : goal.returns-clause-spares
 returns-clause-spares g c told = let d = g.D.Disk in spares_step d.seen d.moment d.images c.args.file _ c.args.disk.now c.pass.new.disk (c.pass.ensures.steps told)

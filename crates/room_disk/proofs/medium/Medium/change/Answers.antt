@@ -8,11 +8,11 @@ use Rattle.room_disk.specs.Record.{content_of}
 use Rattle.room_disk.proofs.Recorded.{steps_none, steps_to, kept_to, small_to, does}
 use Rattle.room_disk.proofs.medium.Medium.change.Goals as goal
 
-pub returns-then-is_err-clause-steps : goal.returns-then-is_err-clause-steps
-returns-then-is_err-clause-steps c = steps_none c.args.file (ChangedInPart c.args.change) _ _ (change_undone c.args.change) c.reserve.ensures.items
+pub returns-in_err-reserve-clause-steps : goal.returns-in_err-reserve-clause-steps
+returns-in_err-reserve-clause-steps c = steps_none c.args.file (ChangedInPart c.args.change) _ _ (change_undone c.args.change) c.reserve.ensures.items
 
-pub invariant_of-self-in-Break-1 : goal.invariant_of-self-in-Break-1
-invariant_of-self-in-Break-1 c =
+pub invariant_of-self-in-Break-branch-2 : goal.invariant_of-self-in-Break-branch-2
+invariant_of-self-in-Break-branch-2 c =
     let same : content_in c.change_file.new.files ≡ content_in c.args.self.now.files = λ i f. c.in_err-change_file.ensures.err f i in
     record {
       kept = same ∙ c.args.self.now.kept ∙ ap (λ l. content_of (reverse l)) (sym c.reserve.ensures.items);

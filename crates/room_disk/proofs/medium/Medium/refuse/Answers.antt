@@ -6,8 +6,8 @@ use Rattle.room_disk.specs.Parts.{change_undone}
 use Rattle.room_disk.proofs.Recorded.{steps_none, steps_to, kept_to, choose_same, refuses}
 use Rattle.room_disk.proofs.medium.Medium.refuse.Goals as goal
 
-pub returns-then-is_err-clause-steps : goal.returns-then-is_err-clause-steps
-returns-then-is_err-clause-steps c = steps_none c.args.file (ChangedInPart c.args.change) _ _ (change_undone c.args.change) c.reserve.ensures.items
+pub returns-in_err-reserve-clause-steps : goal.returns-in_err-reserve-clause-steps
+returns-in_err-reserve-clause-steps c = steps_none c.args.file (ChangedInPart c.args.change) _ _ (change_undone c.args.change) c.reserve.ensures.items
 
 pub invariant_of-self-2 : goal.invariant_of-self-2
 invariant_of-self-2 c =

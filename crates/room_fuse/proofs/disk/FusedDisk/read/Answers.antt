@@ -18,7 +18,8 @@ returns-clause-stays g c told =
 
 pub returns-clause-came : goal.returns-clause-came
 returns-clause-came g c =
-    let d = g.D.Disk in let old = c.args.self.now in
-    (c.read_over.ensures.came, counts_same old.fired old.armed (length old.past.items) old.how,
-      λ told. mirrored_stays d.images d.moment d.seen old.inner c.read_over.new.disk old.held.items (c.read_over.ensures.stays told).files old.past.items)
-
+    let d = g.D.Disk in let old = c.args.self.now in (
+      c.read_over.ensures.came,
+      counts_same old.fired old.armed (length old.past.items) old.how,
+      λ told. mirrored_stays d.images d.moment d.seen old.inner c.read_over.new.disk old.held.items (c.read_over.ensures.stays told).files old.past.items,
+    )

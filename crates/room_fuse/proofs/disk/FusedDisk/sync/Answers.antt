@@ -21,10 +21,11 @@ returns-in_err-count_down-clause-steps g c told =
 pub returns-in_err-count_down-clause-came : goal.returns-in_err-count_down-clause-came
 returns-in_err-count_down-clause-came g c =
     let d = g.D.Disk in let old = c.args.self.now in
-    let marked = c.in_ok-remember.ensures.ok in
-    (g.met.D.Disk.came_same old.inner,
+    let marked = c.in_ok-remember.ensures.ok in (
+      g.met.D.Disk.came_same old.inner,
       counts_on old.fired old.armed c.count_down.new.armed (length old.past.items) (length c.remember.new.past.items) c.count_down.new.fired old.how c.in_ok-admit.ensures.ok.0 (size_marked old.past.items c.remember.new.past.items old.inner old.held.items marked) c.count_down.ensures.counted,
-      λ told. mirrored_held d.images d.moment old.past.items c.remember.new.past.items old.inner old.held.items old.held.items marked)
+      λ told. mirrored_held d.images d.moment old.past.items c.remember.new.past.items old.inner old.held.items old.held.items marked,
+    )
 
 pub invariant_of-self-2 : goal.invariant_of-self-2
 invariant_of-self-2 g c = record {
@@ -36,7 +37,7 @@ pub returns-clause-durable : goal.returns-clause-durable
 returns-clause-durable g c told =
     let d = g.D.Disk in let old = c.args.self.now in
     on_both c.pass_all.result _ _ _ c.pass_all.ensures.none (c.pass_all.ensures.durable told)
-      (synced_only d.images d.moment d.seen c.remember.new.past.items old.inner c.pass_all.new.disk old.held.items c.pass_all.new.held.items c.args.file (c.pass_all.ensures.passed told).reads)
+    (synced_only d.images d.moment d.seen c.remember.new.past.items old.inner c.pass_all.new.disk old.held.items c.pass_all.new.held.items c.args.file (c.pass_all.ensures.passed told).reads)
 
 pub returns-clause-steps : goal.returns-clause-steps
 returns-clause-steps g c told =
@@ -51,7 +52,7 @@ returns-clause-passed g c told stops =
     let reads = (c.pass_all.ensures.passed told).reads in
     record {
       here = on_both c.pass_all.result _ _ _ c.pass_all.ensures.none c.pass_all.ensures.none
-        (λ none again how. left_none how later left c.args.file none ∙ sym (content_skip later (reverse left) c.args.file (others_reverse c.args.file left none)) ∙ reads c.args.file);
+          (λ none again how. left_none how later left c.args.file none ∙ sym (content_skip later (reverse left) c.args.file (others_reverse c.args.file left none)) ∙ reads c.args.file);
       others = always c.pass_all.result _ (λ how f other. left_others how (d.seen old.inner) later old.held.items left c.args.file f other ((c.pass_all.ensures.spares told).reads f other) (reads f) c.pass_all.ensures.rest);
       at_stop = λ calm fired. absurd (cc (fired, c.in_ok-count_down.ensures.ok.0));
     }
@@ -59,8 +60,8 @@ returns-clause-passed g c told stops =
 pub returns-clause-came : goal.returns-clause-came
 returns-clause-came g c =
     let d = g.D.Disk in let old = c.args.self.now in
-    let marked = c.in_ok-remember.ensures.ok in
-    (c.pass_all.ensures.came,
+    let marked = c.in_ok-remember.ensures.ok in (
+      c.pass_all.ensures.came,
       counts_on old.fired old.armed c.count_down.new.armed (length old.past.items) (length c.remember.new.past.items) c.count_down.new.fired old.how c.in_ok-admit.ensures.ok.0 (size_marked old.past.items c.remember.new.past.items old.inner old.held.items marked) c.count_down.ensures.counted,
-      λ told. mirrored_marked d.images d.moment old.past.items c.remember.new.past.items old.inner c.pass_all.new.disk old.held.items c.pass_all.new.held.items marked (c.pass_all.ensures.passed told).within)
-
+      λ told. mirrored_marked d.images d.moment old.past.items c.remember.new.past.items old.inner c.pass_all.new.disk old.held.items c.pass_all.new.held.items marked (c.pass_all.ensures.passed told).within,
+    )

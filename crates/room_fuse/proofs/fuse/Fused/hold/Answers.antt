@@ -11,8 +11,8 @@ returns-in_err-admit-clause-steps g c told =
     let d = g.D.Disk in let old = c.args.self.now in
     steps_still d.images d.moment d.seen c.args.file (ChangedInPart c.args.change) (change_undone c.args.change) old.past.items old.past.items old.inner old.held.items old.held.items refl refl
 
-pub returns-then-is_err-clause-steps : goal.returns-then-is_err-clause-steps
-returns-then-is_err-clause-steps g c told =
+pub returns-in_err-reserve-clause-steps : goal.returns-in_err-reserve-clause-steps
+returns-in_err-reserve-clause-steps g c told =
     let d = g.D.Disk in let old = c.args.self.now in
     steps_still d.images d.moment d.seen c.args.file (ChangedInPart c.args.change) (change_undone c.args.change) old.past.items old.past.items old.inner old.held.items c.reserve.new.self.items refl c.reserve.ensures.items
 

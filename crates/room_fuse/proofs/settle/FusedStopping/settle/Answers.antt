@@ -24,33 +24,37 @@ pub returns-in_err-pass_whole-clause-again : goal.returns-in_err-pass_whole-clau
 returns-in_err-pass_whole-clause-again g c told =
     let d = g.D.Disk in let old = c.args.self.now in
     on_err c.from_residual-in_err-pass_whole.result _ (again (settled_by old.fired old.how) old.held.items c.prepare.new.held.items c.pass_whole.new.held.items
-      (d.seen old.inner) (d.seen c.pass_whole.new.disk) c.prepare.ensures c.pass_whole.ensures.no_more c.pass_whole.ensures.torn (c.pass_whole.ensures.passed told).reads)
+    (d.seen old.inner) (d.seen c.pass_whole.new.disk) c.prepare.ensures c.pass_whole.ensures.no_more c.pass_whole.ensures.torn (c.pass_whole.ensures.passed told).reads)
 
 pub returns-in_err-pass_whole-clause-within : goal.returns-in_err-pass_whole-clause-within
 returns-in_err-pass_whole-clause-within g c told =
     let d = g.D.Disk in let old = c.args.self.now in
     within_marked d.images d.moment old.past.items c.remember.new.past.items old.inner c.pass_whole.new.disk old.held.items c.pass_whole.new.held.items c.in_ok-remember.ensures.ok
-      (λ f e left. left_ready (settled_by old.fired old.how) old.held.items c.prepare.new.held.items c.prepare.ensures (d.images old.inner (d.moment old.inner)) f e ((c.pass_whole.ensures.passed told).images_left f e left))
+    (λ f e left. left_ready (settled_by old.fired old.how) old.held.items c.prepare.new.held.items c.prepare.ensures (d.images old.inner (d.moment old.inner)) f e ((c.pass_whole.ensures.passed told).images_left f e left))
 
 pub returns-in_err-pass_whole-clause-went : goal.returns-in_err-pass_whole-clause-went
 returns-in_err-pass_whole-clause-went g c =
-    let d = g.D.Disk in let old = c.args.self.now in
-    (c.pass_whole.ensures.came, λ told. mirrored_marked d.images d.moment old.past.items c.remember.new.past.items old.inner c.pass_whole.new.disk old.held.items c.pass_whole.new.held.items c.in_ok-remember.ensures.ok
-      (widen (d.moment old.inner) (d.moment c.pass_whole.new.disk) (d.images old.inner) (d.images c.pass_whole.new.disk) (LeftNow d.images d.moment old.inner c.prepare.new.held.items) (LeftNow d.images d.moment old.inner old.held.items)
-        (c.pass_whole.ensures.passed told).within (left_ready (settled_by old.fired old.how) old.held.items c.prepare.new.held.items c.prepare.ensures (d.images old.inner (d.moment old.inner)))))
+    let d = g.D.Disk in let old = c.args.self.now in (
+      c.pass_whole.ensures.came,
+      λ told. mirrored_marked d.images d.moment old.past.items c.remember.new.past.items old.inner c.pass_whole.new.disk old.held.items c.pass_whole.new.held.items c.in_ok-remember.ensures.ok
+          (widen (d.moment old.inner) (d.moment c.pass_whole.new.disk) (d.images old.inner) (d.images c.pass_whole.new.disk) (LeftNow d.images d.moment old.inner c.prepare.new.held.items) (LeftNow d.images d.moment old.inner old.held.items)
+          (c.pass_whole.ensures.passed told).within (left_ready (settled_by old.fired old.how) old.held.items c.prepare.new.held.items c.prepare.ensures (d.images old.inner (d.moment old.inner)))),
+    )
 
 pub returns-clause-within : goal.returns-clause-within
 returns-clause-within g c told =
     let d = g.D.Disk in let old = c.args.self.now in
     within_marked d.images d.moment old.past.items c.remember.new.past.items old.inner c.pass_whole.new.disk old.held.items c.pass_whole.new.held.items c.in_ok-remember.ensures.ok
-      (λ f e left. left_ready (settled_by old.fired old.how) old.held.items c.prepare.new.held.items c.prepare.ensures (d.images old.inner (d.moment old.inner)) f e ((c.pass_whole.ensures.passed told).images_left f e left))
+    (λ f e left. left_ready (settled_by old.fired old.how) old.held.items c.prepare.new.held.items c.prepare.ensures (d.images old.inner (d.moment old.inner)) f e ((c.pass_whole.ensures.passed told).images_left f e left))
 
 pub returns-clause-went : goal.returns-clause-went
 returns-clause-went g c =
-    let d = g.D.Disk in let old = c.args.self.now in
-    (c.pass_whole.ensures.came, λ told. mirrored_marked d.images d.moment old.past.items c.remember.new.past.items old.inner c.pass_whole.new.disk old.held.items c.pass_whole.new.held.items c.in_ok-remember.ensures.ok
-      (widen (d.moment old.inner) (d.moment c.pass_whole.new.disk) (d.images old.inner) (d.images c.pass_whole.new.disk) (LeftNow d.images d.moment old.inner c.prepare.new.held.items) (LeftNow d.images d.moment old.inner old.held.items)
-        (c.pass_whole.ensures.passed told).within (left_ready (settled_by old.fired old.how) old.held.items c.prepare.new.held.items c.prepare.ensures (d.images old.inner (d.moment old.inner)))))
+    let d = g.D.Disk in let old = c.args.self.now in (
+      c.pass_whole.ensures.came,
+      λ told. mirrored_marked d.images d.moment old.past.items c.remember.new.past.items old.inner c.pass_whole.new.disk old.held.items c.pass_whole.new.held.items c.in_ok-remember.ensures.ok
+          (widen (d.moment old.inner) (d.moment c.pass_whole.new.disk) (d.images old.inner) (d.images c.pass_whole.new.disk) (LeftNow d.images d.moment old.inner c.prepare.new.held.items) (LeftNow d.images d.moment old.inner old.held.items)
+          (c.pass_whole.ensures.passed told).within (left_ready (settled_by old.fired old.how) old.held.items c.prepare.new.held.items c.prepare.ensures (d.images old.inner (d.moment old.inner)))),
+    )
 
 pub returns-clause-left : goal.returns-clause-left
 returns-clause-left g c told f =
@@ -61,5 +65,4 @@ pub returns-clause-durable : goal.returns-clause-durable
 returns-clause-durable g c told f some =
     let d = g.D.Disk in let old = c.args.self.now in
     bare_only d.images d.moment d.seen c.remember.new.past.items c.pass_whole.new.disk c.pass_whole.new.held.items f c.in_ok-pass_whole.ensures.empty
-      (c.in_ok-pass_whole.ensures.durable told f (λ none. some (subst (Others f) c.prepare.ensures none)))
-
+    (c.in_ok-pass_whole.ensures.durable told f (λ none. some (subst (Others f) c.prepare.ensures none)))
