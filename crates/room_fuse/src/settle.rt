@@ -78,7 +78,8 @@ impl<D: Disk> Stopping for Fused<D> {
     } };
 
     fn arm(&mut self, calls: u64, how: Stop) {
-        Fused::arm(self, calls, how)
+        self.armed = calls;
+        self.how = how;
     }
 
     fn fired(&self) -> bool {
@@ -118,7 +119,13 @@ impl<D: Disk> Fused<D> {
     /// Lets the call of that number from now on, of the writes, cuts and syncs, be the stop.
     pub fn arm(&mut self, calls: u64, how: Stop)
         requires { 1 ≤ calls }
-        ensures { self.new ≡ record self.old { armed = calls; how = how } }
+        ensures armed { self.new.armed ≡ calls }
+        ensures how { self.new.how ≡ how }
+        ensures inner { self.new.inner ≡ self.old.inner }
+        ensures held { self.new.held ≡ self.old.held }
+        ensures past { self.new.past ≡ self.old.past }
+        ensures fired { self.new.fired ≡ self.old.fired }
+        ensures refused { self.new.refused ≡ self.old.refused }
     {
         self.armed = calls;
         self.how = how;
@@ -131,8 +138,8 @@ impl<D: Disk> Fused<D> {
         self.fired
     }
 
-    /// Ends the stop in its way, or, where none came, drops what is held back. Each file that it wrote to is synced, and
-    /// the disk is disarmed.
+    /// Ends the stop in its way, or, where none came, drops what is held back. It syncs each file that it wrote to, and
+    /// disarms.
     pub fn settle(&mut self) -> Result<(), DiskFault>
         ensures left { D.tells ≡ true → OnOk result ((f : ℕ) → D.seen self.new.inner f
             ≡ left_through D.seen self.old.inner self.old.held.items (settled_by self.old.fired self.old.how) f) }
