@@ -9,6 +9,8 @@ mod files;
 mod medium;
 mod mem;
 mod sure;
+#[cfg(test)]
+mod tests;
 
 pub use change::{FileChange, is_past_bound};
 pub use disk::{Disk, DiskFault, Stop};

@@ -9,6 +9,8 @@ mod pass;
 mod past;
 mod settle;
 mod stopping;
+#[cfg(test)]
+mod tests;
 
 pub use fuse::Fused;
 pub use stopping::Stopping;
