@@ -1,0 +1,65 @@
+//! The calls of a disk in memory, some of which fail.
+ghost use Rattle.std.specs.Prelude.{◌≡◌};
+ghost use Rattle.room_edge.specs.Memory.{is_among, no_calls, is_to_fail};
+ghost use Rattle.room_disk.specs.Failing.{lifted, Counts};
+
+use std::marker::Model;
+
+/// Counts the calls, and lets those fail whose numbers it was given.
+#[derive(Drop)]
+pub(crate) struct Calls {
+    calls: u64,
+    fails: Vec<u64>,
+    faults: u64,
+}
+
+impl Model for Calls {
+    ghost use Rattle.room_edge.specs.Memory.{Calls as Meaning};
+
+    ghost Value = { Meaning };
+
+    ghost view = { λ c. record { calls = c.calls; fails = c.fails.items; faults = c.faults } };
+}
+
+impl Calls {
+    pub(crate) fn new(fails: Vec<u64>) -> Calls
+        ensures { result ≡ no_calls fails.items }
+    {
+        Calls {
+            calls: 0,
+            fails,
+            faults: 0,
+        }
+    }
+
+    /// Counts a call, and answers whether it is to fail.
+    pub(crate) fn begin(&mut self) -> bool
+        ensures answer { result ≡ is_to_fail self.old }
+        ensures counted { Counts self.old self.new }
+    {
+        self.calls = self.calls.saturating_add(1);
+        if is_among(self.fails.as_slice(), self.calls) {
+            self.faults = self.faults.saturating_add(1);
+            return true;
+        }
+        false
+    }
+
+    /// Lets no call fail any more.
+    pub(crate) fn lift(&mut self)
+        ensures { self.new ≡ lifted self.old }
+    {
+        self.fails.clear();
+    }
+}
+
+fn is_among(numbers: &[u64], number: u64) -> bool
+    ensures { result ≡ is_among number numbers.now }
+{
+    for k in numbers {
+        if *k == number {
+            return true;
+        }
+    }
+    false
+}

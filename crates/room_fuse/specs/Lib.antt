@@ -1,0 +1,5 @@
+pub mod Held
+pub mod Past
+pub mod Passing
+pub mod Mirrors
+pub mod Laws
