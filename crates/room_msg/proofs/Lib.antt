@@ -2,6 +2,7 @@ pub mod Bounds
 pub mod Framed
 pub mod KeyTexts
 pub mod Places
+pub mod ReadDepth
 pub mod Reread
 pub mod SoundClient
 pub mod SoundServer

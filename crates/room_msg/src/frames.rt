@@ -1,8 +1,9 @@
-ghost use Rattle.std.specs.Prelude.{◌≡◌, IfOk, IfErr, Ok};
+ghost use Rattle.std.specs.Prelude.{◌≡◌, ◌≤◌, IfOk, IfErr, Ok};
+ghost use Rattle.room_json.specs.Value.{depth};
 ghost use Rattle.room_json.specs.View.{json_of};
 ghost use Rattle.room_msg.specs.Frame.{frame_value_in, client_msgs_in, client_frame_in, server_frame_in};
 ghost use Rattle.room_msg.specs.Msg.{IsFaultOf};
-ghost use Rattle.room_msg.specs.Sound.{IsSoundClientFrame, IsSoundServerFrame};
+ghost use Rattle.room_msg.specs.Sound.{IsSoundClientFrame, IsShallowClientFrame, IsSoundServerFrame};
 
 use crate::messages::{ClientFrame, ServerFrame};
 use crate::reading::read_msgs;
@@ -13,6 +14,7 @@ use std::alloc::Global;
 
 fn read_text(alloc: Global, text: &Text) -> Result<Json, MsgFault>
     ensures ok { IfOk result (λ v. frame_value_in text.now ≡ Ok (json_of v)) }
+    ensures shallow { IfOk result (λ v. depth (json_of v) ≤ 60) }
     ensures err { IfErr result (IsFaultOf (frame_value_in text.now)) }
 {
     match read(alloc, text.as_bytes()) {
@@ -35,10 +37,11 @@ fn read_list(alloc: Global, v: &Json) -> Result<ClientFrame, MsgFault>
 }
 
 /// What a client's frame holds, or the first reason why it is refused.
-#[tactic(auto, using(crate::proofs::SoundClient::client_sound))]
+#[tactic(auto, using(crate::proofs::SoundClient::client_sound, crate::proofs::SoundClient::client_shallow))]
 pub fn read_client(alloc: Global, text: &Text) -> Result<ClientFrame, MsgFault>
     ensures ok { IfOk result (λ f. client_frame_in text.now ≡ Ok f) }
     ensures sound { IfOk result IsSoundClientFrame }
+    ensures shallow { IfOk result IsShallowClientFrame }
     ensures err { IfErr result (IsFaultOf (client_frame_in text.now)) }
 {
     if text.len() > 1048576 {
