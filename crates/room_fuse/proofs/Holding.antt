@@ -1,7 +1,7 @@
 -- One call more that is held back, and one moment more.
 use Rattle.std.proofs.Common.{◌≡◌, ℕ, zero, suc, ◌+◌, ◌≤◌, ◌<◌, ◌^◌, List, [], ◌∷◌, ◌++◌, length, reverse, refl, sym, ◌∙◌, ap, subst, arith, length-append}
 use Rattle.std.proofs.lemmas.List.{reverse-append}
-use Rattle.room_disk.specs.Model.{Images, Keeps, Same, StepsBetween}
+use Rattle.room_disk.specs.Model.{Images, Keeps, Same}
 use Rattle.room_disk.specs.Changes.{changed, ChangedInPart, place, reach}
 use Rattle.room_disk.specs.Parts.{change_done}
 use Rattle.room_disk.proofs.Recorded.{same_test, other_test}

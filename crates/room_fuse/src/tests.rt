@@ -1,3 +1,5 @@
+ghost use Rattle.std.specs.Prelude.{◌≤◌};
+
 use super::*;
 use room_disk::{Disk, DiskFault, MemDisk, Stop, SureDisk, put_down};
 use std::alloc::Global;
