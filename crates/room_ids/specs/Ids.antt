@@ -5,7 +5,7 @@ use Rattle.std.specs.Fmt.{decimal}
 use Rattle.std.specs.Str.{all_ascii_digits, bytes_eq}
 use Rattle.std.specs.Str.Parse.{digits_value}
 use Rattle.room_json.specs.Limits.{max_whole}
-use Rattle.room_ids.specs.Limits.{max_actor}
+use Rattle.room_ids.specs.Bounds.{max_actor}
 use Rattle.room_ids.specs.Stamp.{Stamp}
 use Rattle.room_ids.specs.Position.{is_some_text}
 use Rattle.room_ids.specs.declared.ids.OpId.{OpId}

@@ -1,7 +1,7 @@
 -- What holds of ids and positions by their definitions.
 use Rattle.std.specs.Prelude.{◌≡◌, ◌≤◌, ◌<◌, ◌++◌, ℕ, true, List, [], ◌∷◌, length, replicate, Option, Some, IfSome, ⊤}
 use Rattle.room_json.specs.Limits.{max_whole}
-use Rattle.room_ids.specs.Limits.{max_actor, max_position}
+use Rattle.room_ids.specs.Bounds.{max_actor, max_position}
 use Rattle.room_ids.specs.Stamp.{Stamp}
 use Rattle.room_ids.specs.Ids.{number_in, stamp_in, node_in, stamp_text, node_text}
 use Rattle.room_ids.specs.Position.{IsBelow, is_pos, first, after, before, between}

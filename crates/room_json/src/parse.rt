@@ -2,8 +2,8 @@
 ghost use Rattle.std.specs.Prelude.{◌≡◌, ◌≤◌, ◌^◌, ◌-◌, min, Some, None, Ok, IfOk, IfErr, ok_or, []};
 ghost use Rattle.serde_json.specs.Data.{depth, items_depth, members_depth};
 ghost use Rattle.serde_json.specs.View.{view, number_view, items_view, members_view as object_view};
-ghost use Rattle.room_json.specs.Reading.{whole_in, value_in, items_in, members_into, value_of_text, data_in, profile_in};
-ghost use Rattle.room_json.specs.Reading.{not_json, IsFaultOf};
+ghost use Rattle.room_json.specs.Reading.{whole_in, value_in, items_in, members_into, value_of_text, data_in};
+ghost use Rattle.room_json.specs.Reading.{profile_in, not_json, IsFaultOf};
 ghost use Rattle.room_json.specs.View.{json_of};
 
 use crate::memory::NoMemory;

@@ -9,7 +9,6 @@ pub mod Shape
 pub mod Sound
 pub mod Steps
 pub mod Turns
-
 pub use Rattle.room_json.specs.Profile
 pub use Rattle.room_json.specs.Value
 pub use Rattle.room_json.specs.View

@@ -59,7 +59,8 @@ pub record Footprints : Type 0 where
   pub either_order : EitherOrder
 
 -- undoing a batch whose cells nothing else touched restores them. The batch was made on s and taken on t, which agree
--- on its cells; then came zs, apart from it; then its reversal, as it was taken on s. The tree is as if neither had been
+-- on its cells; then came zs, apart from it; then its reversal, as it was taken on s. The tree is as if neither had
+-- been
 abbrev pub UndoRestores : Type 0
 UndoRestores =
     (s t : Nodes) (bs zs : List Body) → IsFormed s → IsFormed t → IsOrderedTree s → IsOrderedTree t

@@ -1,5 +1,4 @@
 pub mod Laws
-
 pub use Rattle.room_nodes.specs.Cells
 pub use Rattle.room_nodes.specs.Ordered
 pub use Rattle.room_nodes.specs.Reversal
