@@ -3,6 +3,7 @@ use super::*;
 use room_json::{Copied, NoMemory, Sound, Text};
 use std::alloc::Global;
 use std::cmp::Ordering;
+use std::process::Abort;
 use std::test::Fail;
 
 /// The text of the node that a text spells.
@@ -27,10 +28,10 @@ fn op_again(alloc: Global, text: &[u8]) -> Result<Option<Text>, NoMemory> {
     }
 }
 
-fn no_ids(rt: &HostRuntime, texts: &[&str]) -> Result<(), Fail> {
+fn no_ids(rt: &impl Abort, alloc: Global, texts: &[&str]) -> Result<(), Fail> {
     for text in texts {
-        assert!(rt; node_again(rt.alloc(), text.as_bytes())?.is_none());
-        assert!(rt; op_again(rt.alloc(), text.as_bytes())?.is_none());
+        assert!(rt; node_again(alloc, text.as_bytes())?.is_none());
+        assert!(rt; op_again(alloc, text.as_bytes())?.is_none());
     }
     Ok(())
 }
@@ -40,6 +41,7 @@ fn ids_are_read_and_written(rt: HostRuntime) -> Result<(), Fail> {
     let alloc = rt.alloc();
     no_ids(
         &rt,
+        alloc,
         &[
             "",
             "01:2",
@@ -54,7 +56,7 @@ fn ids_are_read_and_written(rt: HostRuntime) -> Result<(), Fail> {
             "a:1",
         ],
     )?;
-    no_ids(&rt, &["1:9007199254740992"])?;
+    no_ids(&rt, alloc, &["1:9007199254740992"])?;
     for text in ["root", "0:0", "1:20", "4294967295:9007199254740991"] {
         let node = node_again(alloc, text.as_bytes())?;
         assert_eq!(rt; node.as_ref().map(|t| t.as_str()), Some(text));
@@ -110,17 +112,17 @@ fn positions_are_read(rt: HostRuntime) -> Result<(), Fail> {
     Ok(())
 }
 
-fn made_after(rt: &HostRuntime, cases: &[(&str, &str)]) -> Result<(), Fail> {
+fn made_after(rt: &impl Abort, alloc: Global, cases: &[(&str, &str)]) -> Result<(), Fail> {
     for (x, want) in cases {
-        let made = after(rt.alloc(), &place(rt.alloc(), x)?)?;
+        let made = after(alloc, &place(alloc, x)?)?;
         assert_eq!(rt; made.text().as_str(), *want);
     }
     Ok(())
 }
 
-fn made_before(rt: &HostRuntime, cases: &[(&str, &str)]) -> Result<(), Fail> {
+fn made_before(rt: &impl Abort, alloc: Global, cases: &[(&str, &str)]) -> Result<(), Fail> {
     for (x, want) in cases {
-        let made = before(rt.alloc(), &place(rt.alloc(), x)?)?;
+        let made = before(alloc, &place(alloc, x)?)?;
         assert_eq!(rt; made.text().as_str(), *want);
     }
     Ok(())
@@ -133,9 +135,9 @@ fn amid(alloc: Global, x: &Pos, y: &Pos) -> Result<Pos, Fail> {
     Ok(between(alloc, x, Some(y))?)
 }
 
-fn made_between(rt: &HostRuntime, cases: &[(&str, &str, &str)]) -> Result<(), Fail> {
+fn made_between(rt: &impl Abort, alloc: Global, cases: &[(&str, &str, &str)]) -> Result<(), Fail> {
     for (x, y, want) in cases {
-        let made = amid(rt.alloc(), &place(rt.alloc(), x)?, &place(rt.alloc(), y)?)?;
+        let made = amid(alloc, &place(alloc, x)?, &place(alloc, y)?)?;
         assert_eq!(rt; made.text().as_str(), *want);
     }
     Ok(())
@@ -145,10 +147,11 @@ fn made_between(rt: &HostRuntime, cases: &[(&str, &str, &str)]) -> Result<(), Fa
 fn positions_are_made(rt: HostRuntime) -> Result<(), Fail> {
     let alloc = rt.alloc();
     assert_eq!(rt; first(alloc)?.text().as_str(), "!");
-    made_after(&rt, &[("!", "\""), ("~", "~!"), (" ~", "!")])?;
-    made_before(&rt, &[("!", " ~"), ("!O", "!"), (" A", " @")])?;
+    made_after(&rt, alloc, &[("!", "\""), ("~", "~!"), (" ~", "!")])?;
+    made_before(&rt, alloc, &[("!", " ~"), ("!O", "!"), (" A", " @")])?;
     made_between(
         &rt,
+        alloc,
         &[
             ("!", "\"", "!O"),
             ("!", "#", "\""),

@@ -2,6 +2,7 @@
 use super::*;
 use std::alloc::Global;
 use std::fmt::Display;
+use std::process::Abort;
 use std::test::Fail;
 
 /// A fault as a user reads it.
@@ -18,24 +19,26 @@ fn again(alloc: Global, text: &[u8]) -> Result<Text, Fail> {
     }
 }
 
-fn give(rt: &HostRuntime, cases: &[(&str, &str)]) -> Result<(), Fail> {
+fn give(rt: &impl Abort, alloc: Global, cases: &[(&str, &str)]) -> Result<(), Fail> {
     for (text, want) in cases {
-        assert_eq!(rt; again(rt.alloc(), text.as_bytes())?.as_str(), *want);
+        assert_eq!(rt; again(alloc, text.as_bytes())?.as_str(), *want);
     }
     Ok(())
 }
 
-fn all_give(rt: &HostRuntime, texts: &[&str], want: &str) -> Result<(), Fail> {
+fn all_give(rt: &impl Abort, alloc: Global, texts: &[&str], want: &str) -> Result<(), Fail> {
     for text in texts {
-        assert_eq!(rt; again(rt.alloc(), text.as_bytes())?.as_str(), want);
+        assert_eq!(rt; again(alloc, text.as_bytes())?.as_str(), want);
     }
     Ok(())
 }
 
 #[test]
 fn reads_and_writes(rt: HostRuntime) -> Result<(), Fail> {
+    let alloc = rt.alloc();
     give(
         &rt,
+        alloc,
         &[
             (r#"{"a":1,"a":2}"#, r#"{"a":2}"#),
             (r#"{"b":{},"a":[ ]}"#, r#"{"a":[],"b":{}}"#),
@@ -58,6 +61,7 @@ fn reads_and_writes(rt: HostRuntime) -> Result<(), Fail> {
 
 #[test]
 fn refuses(rt: HostRuntime) -> Result<(), Fail> {
+    let alloc = rt.alloc();
     let numbers = [
         "[1.5]",
         "1.0",
@@ -68,7 +72,12 @@ fn refuses(rt: HostRuntime) -> Result<(), Fail> {
         "12345678901234567890",
         "99999999999999999999",
     ];
-    all_give(&rt, &numbers, "a number that is not whole or over 53 bits")?;
+    all_give(
+        &rt,
+        alloc,
+        &numbers,
+        "a number that is not whole or over 53 bits",
+    )?;
     let others = [
         "",
         "{",
@@ -81,8 +90,8 @@ fn refuses(rt: HostRuntime) -> Result<(), Fail> {
         "1e400",
         "\u{feff}1",
     ];
-    all_give(&rt, &others, "not JSON")?;
-    assert_eq!(rt; again(rt.alloc(), b"\"\xff\"")?.as_str(), "not JSON");
+    all_give(&rt, alloc, &others, "not JSON")?;
+    assert_eq!(rt; again(alloc, b"\"\xff\"")?.as_str(), "not JSON");
     Ok(())
 }
 
@@ -139,8 +148,7 @@ fn shown(alloc: Global, members: &Members) -> Result<Text, NoMemory> {
 }
 
 /// Sets and removes a name that is there.
-fn change(rt: &HostRuntime, members: &mut Members, name: &Text) -> Result<(), Fail> {
-    let alloc = rt.alloc();
+fn change(rt: &impl Abort, alloc: Global, members: &mut Members, name: &Text) -> Result<(), Fail> {
     let most = members.set(name.copy(alloc)?, Json::Int(whole_u64(MAX_WHOLE)))?;
     assert!(rt; most.is_some());
     assert!(rt; members.find(name).is_some());
@@ -155,7 +163,7 @@ fn members(rt: HostRuntime) -> Result<(), Fail> {
     let mut members = object(alloc, &[("b", 1), ("a", 2)])?;
     merge(alloc, &mut members, &object(alloc, &[("c", 3), ("a", 4)])?)?;
     assert_eq!(rt; shown(alloc, &members)?.as_str(), r#"{"a":4,"b":1,"c":3}"#);
-    change(&rt, &mut members, &Text::from_bytes(alloc, b"a")?)?;
+    change(&rt, alloc, &mut members, &Text::from_bytes(alloc, b"a")?)?;
     assert_eq!(rt; members.len(), 2);
     assert_eq!(rt; members.get(0).map(|m| m.0.as_str()), Some("b"));
     let all = Json::Object(members);
