@@ -32,7 +32,7 @@ use Rattle.room_log.specs.Laws.{TakenFollows, ValidAfter}
 use Rattle.room_log.proofs.Following.{Decides-le, follows_exactly}
 use Rattle.room_log.proofs.NextTaken.{taken_follows}
 use Rattle.room_log.proofs.ValidStates.{valid_after}
-use Rattle.room_model.specs.Access.{Decision, may_do, refusal_text}
+use Rattle.room_model.specs.Access.{Decision, barred, refusal_text}
 use Rattle.room_model.specs.Server
 use Rattle.room_model.specs.Server.{Down, Pong, Message, Closed, Up, Link, Served}
 use Rattle.room_model.specs.Sound.{AreItems}
@@ -296,7 +296,11 @@ module _ (v : Server.Server) (h : IsSoundServer v) where
     admitted_goes hello (Some r) d name g = calm_goes v _ (resumes k l r d g.0 i g.1 g.2)
 
     admit_goes : (hello : Hello) (d : Option Decision) → IsTextIfThere hello.name → Greeted hello.resume → Goes v (Server.admit v k l hello d)
-    admit_goes hello d name g = or_shut (may_do d (client.Hello hello ∷ [])) 4403 (refusal_text d) (Server.admitted v k l hello hello.resume d) (λ e. admitted_goes hello hello.resume d name g)
+    admit_goes hello d name g = unless (barred d (client.Hello hello ∷ []))
+      where
+        unless : (bar : Option Decision) → Goes v (Server.admit_unless v k l hello d bar)
+        unless None = admitted_goes hello hello.resume d name g
+        unless (Some bar) = calm_goes v _ (shuts k l i 4403 (refusal_text bar))
 
     key_is : (key : ℕ) (x : Session) → ((x.key == key) && not (key == 0)) ≡ true → x.key ≡ key
     key_is key x e = eqb-true x.key key (left (x.key == key) (not (key == 0)) e)
@@ -451,7 +455,11 @@ module _ (items : ItemsOfValid) (v : Server.Server) (h : IsSoundServer v) (k : �
 
     owned_goes : (o : Option ℕ) → Goes v (Server.owned v k l a ms o)
     owned_goes (Some got) = calm_goes v _ (shuts v h k l i 4404 (Server.expected_got (codes "foreign actor") a got))
-    owned_goes None = or_shut v h k l i (may_do l.decision ms) 4403 (refusal_text l.decision) (Server.taken v k l a ms (take v.state a (Server.all_ops_in ms))) (λ e. taken_goes (take v.state a (Server.all_ops_in ms)) refl)
+    owned_goes None = unless (barred l.decision ms)
+      where
+        unless : (bar : Option Decision) → Goes v (Server.permitted_unless v k l a ms bar)
+        unless None = taken_goes (take v.state a (Server.all_ops_in ms)) refl
+        unless (Some bar) = calm_goes v _ (shuts v h k l i 4403 (refusal_text bar))
 
     session_goes : Goes v (Server.session_frame v k l a ms)
     session_goes = by_shut v h k l i (Server.has_hello ms) 4400 (codes "bad frame " ++ Server.reason_text reason.Hello) (Server.owned v k l a ms (Server.foreign_in a (Server.all_ops_in ms))) (λ e. owned_goes (Server.foreign_in a (Server.all_ops_in ms)))

@@ -12,7 +12,7 @@ use Rattle.room_msg.specs.declared.messages.ClientFrame.TheVariants as frame
 use Rattle.room_msg.specs.declared.reason.Reason.TheVariants as reason
 use Rattle.room_log.specs.Log.{State, Session, Updated, Update, session_of, last_in, updated}
 use Rattle.room_log.specs.Take.{Taken, Nothing, Gap, Takes, take}
-use Rattle.room_model.specs.Access.{may_do, refusal_text}
+use Rattle.room_model.specs.Access.{Decision, barred, refusal_text}
 use Rattle.room_model.specs.Server
 use Rattle.room_model.specs.Server.{Link, Up, Served, Pong}
 use Rattle.room_model.specs.World
@@ -102,8 +102,11 @@ module _ (s : State) (r : Run) (v : Server.Server) (k : ℕ) (q : Conn) (u : Up)
 
     owned_kept : (o : Option ℕ) → Spells (Server.owned v k l a ms o) → KeptHere (Server.owned v k l a ms o)
     owned_kept (Some got) f = shuts 4404 (Server.expected_got (codes "foreign actor") a got)
-    owned_kept None f = by_may (may_do l.decision ms) 4403 (refusal_text l.decision) (Server.taken v k l a ms (take v.state a (Server.all_ops_in ms)))
-        (λ i. taken_kept (take v.state a (Server.all_ops_in ms)) refl (spells_on (Server.owned v k l a ms None) (Server.taken v k l a ms (take v.state a (Server.all_ops_in ms))) i f))
+    owned_kept None f = unless (barred l.decision ms) f
+      where
+        unless : (bar : Option Decision) → Spells (Server.permitted_unless v k l a ms bar) → KeptHere (Server.permitted_unless v k l a ms bar)
+        unless None g = taken_kept (take v.state a (Server.all_ops_in ms)) refl g
+        unless (Some bar) g = shuts 4403 (refusal_text bar)
 
     pub session_kept : Spells (Server.session_frame v k l a ms) → KeptHere (Server.session_frame v k l a ms)
     session_kept f = by_full (Server.has_hello ms) 4400 (codes "bad frame " ++ Server.reason_text reason.Hello) (Server.owned v k l a ms (Server.foreign_in a (Server.all_ops_in ms)))
