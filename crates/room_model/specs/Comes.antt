@@ -1,4 +1,9 @@
 -- What a client does with a message, and with a frame.
+--
+-- The entry is `frame`, what was read of one: its messages are taken one after the other (`comes`), up to the first refusal.
+-- The tests of each message in their order: the stage allows it (`Unexpected`); a part of a state belongs to those kept
+-- (`Parts`), and with the last one the items are a tree (`NotATree`); an update has the next number (`Gap`); what it says of
+-- the account agrees with what is kept (`AccountFault`).
 use Rattle.std.specs.Prelude.{ℕ, ◌+◌, ◌==◌, ℤ, Bool, true, false, ◌&&◌, ◌||◌, not, if◌then◌else◌, nat_lt, nat_le, List, [], ◌∷◌, ◌++◌, map, Option, Some, None, Result, Ok, Err}
 use Rattle.room_json.specs.Value.{Value}
 use Rattle.room_json.specs.Fields.{first}

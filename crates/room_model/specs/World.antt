@@ -1,4 +1,9 @@
 -- The world: a server, clients, and a queue up and down for each connection; and what each line of a schedule does.
+--
+-- The entry is `step`, at the end. A line of a client is a call (`client_calls`), which changes its account and may send
+-- frames; a line of a connection (`conn_line`) moves what waits in its queues, by the server (`goes_up`) or by the client or
+-- the link (`comes_down`); a line of the server (`server_line`) stops it, starts it or sets what stops it; `drain` moves what
+-- waits until nothing does.
 use Rattle.std.specs.Prelude.{ℕ, zero, suc, ◌+◌, ◌-◌, Bool, true, false, ◌&&◌, if◌then◌else◌, nat_le, is_some, List, [], ◌∷◌, ◌++◌, map, codes, Option, Some, None, Result, Ok, Err}
 use Rattle.std.specs.Ordering.{nat_cmp}
 use Rattle.std.specs.FinMap.{FinMap, get, insert, entries, from_entries, empty}
