@@ -1,3 +1,4 @@
+mod Acting
 mod Acts
 mod Advance
 mod Alone
@@ -56,6 +57,7 @@ mod Served
 mod Serves
 mod Sessions
 mod Settled
+mod Single
 mod SoundAccounts
 mod SoundCalls
 mod SoundComes

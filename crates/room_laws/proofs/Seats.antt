@@ -22,6 +22,7 @@ use Rattle.room_model.specs.Run.{Run, line, run}
 use Rattle.room_laws.specs.Open.{brings_none}
 use Rattle.room_laws.specs.Lines.{ComesQuietly, EndsNone, IsQuietOn, IsQuiet, AreQuiet}
 use Rattle.room_laws.proofs.Calls.{seat_same, seat_other}
+use Rattle.room_laws.proofs.Single.{one_comes}
 
 pub record Keeps (P : Account → Type 0) : Type 0 where
   pub edit : (x : Account) (e : Edit) (out : calls.Done) → P x → calls.edit x e ≡ Ok out → P out.account
@@ -178,7 +179,7 @@ module _ (P : Account → Type 0) (keep : Keeps P) (c : ℕ) where
         let u = World.with_seat w d (record { account = out.account; present = p.present; noticed = out.notices }) in
         same (World.send_up u k (map World.frame_up out.replies)) u (send_clients u k (map World.frame_up out.replies) (World.is_attached u k) (get u.conns k)) (put out.account p.present out.notices (λ j. f out refl j))
 
-    next_on : (k : ℕ) (m : ServerMsg) (r : Result Comes.Took Comes.FrameFault) → (d ≡ c → brings_none m ≡ true) → Comes.comes p.account m ≡ r → On (World.frame_taken w number d k p (Comes.took_next (Comes.took p.account) r)).world
+    next_on : (k : ℕ) (m : ServerMsg) (r : Result Comes.Took Comes.FrameFault) → (d ≡ c → brings_none m ≡ true) → Comes.comes p.account m ≡ r → On (World.frame_taken w number d k p (Comes.or_lost p.account r)).world
     next_on k m (Err fault) b i = cuts (calls.lost p.account) (λ j. keep.lost p.account (hp j))
     next_on k m (Ok out) b i =
         let u = World.with_seat w d (record { account = out.account; present = p.present; noticed = out.notices }) in
@@ -193,7 +194,7 @@ module _ (P : Account → Type 0) (keep : Keeps P) (c : ℕ) where
 
         ok_err : (x : Comes.Took) (y : Comes.Refusal) → ◌≡◌ {A = Result Comes.Took Comes.Refusal} (Ok x) (Err y) → ⊥
         ok_err x y e = cc
-    takes_on k (Message n) b = next_on k n (Comes.comes p.account n) (b n refl) refl
+    takes_on k (Message n) b = subst (λ r. On (World.frame_taken w number d k p r).world) (sym (one_comes p.account n)) (next_on k n (Comes.comes p.account n) (b n refl) refl)
     takes_on k (Closed code text) b = cuts (calls.lost p.account) (λ j. keep.lost p.account (hp j))
 
   seat_is : (w : World) (d : ℕ) → On w → d ≡ c → P (account w d)

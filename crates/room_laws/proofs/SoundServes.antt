@@ -40,6 +40,7 @@ use Rattle.room_model.specs.World.{entries_in}
 use Rattle.room_laws.specs.Validity.{AreValidClientMsgs, IsActorOf, IsValidClientMsg, IsSoundDown, IsSoundLink, IsSoundServer, IsSoundUp, ItemsOfValid}
 use Rattle.room_laws.proofs.SoundMaps.{Each, each_put, each_out, each_without}
 use Rattle.room_laws.proofs.SoundSends.{ops_fit}
+use Rattle.room_laws.proofs.Acting.{act_from, taken_from, taken_is}
 
 keeps : ValidAfter
 keeps = valid_after keeps_sound keeps_shallow
@@ -396,14 +397,14 @@ module _ (items : ItemsOfValid) (k a : ℕ) (low : a ≤ most_actor) where
   none_after client.Fetch = refl
   none_after (client.Update os) = refl
 
-  talks : (v : Server.Server) (x : Served) (ms : List ClientMsg) → Goes v x → AreValidClientMsgs ms → Goes v (Server.act_all x k a None ms)
+  talks : (v : Server.Server) (x : Served) (ms : List ClientMsg) → Goes v x → AreValidClientMsgs ms → Goes v (act_from x k a None ms)
   talks v x [] g i = g
   talks v x (m ∷ ms) g i =
       let next = Server.then_served x (Server.acts x.server k a None m) in
-      subst (λ o. Goes v (Server.act_all next k a o ms)) (sym (none_after m)) (talks v next ms (then_calm v x (Server.acts x.server k a None m) g (acts_calm x.server m g.server i.0)) i.1)
+      subst (λ o. Goes v (act_from next k a o ms)) (sym (none_after m)) (talks v next ms (then_calm v x (Server.acts x.server k a None m) g (acts_calm x.server m g.server i.0)) i.1)
 
   module _ (v : Server.Server) (u : Update) (n : IsNext v.state (Updated u)) where
-    waits : (x : Served) (ms : List ClientMsg) → Calm v x → AreValidClientMsgs ms → Goes v (Server.act_all x k a (Some u) ms)
+    waits : (x : Served) (ms : List ClientMsg) → Calm v x → AreValidClientMsgs ms → Goes v (act_from x k a (Some u) ms)
     waits x [] c i = calm_goes v x c
     waits x (client.Update os ∷ ms) c i =
         let done = commits x.server u c.server (subst (λ s. IsNext s (Updated u)) (sym c.state) n) in
@@ -445,10 +446,10 @@ module _ (items : ItemsOfValid) (v : Server.Server) (h : IsSoundServer v) (k : �
     room_for : nat_le v.limits.updates v.state.count ≡ false → v.state.count + 1 ≤ most
     room_for e = grind (arith, nat_tests, e, h.limits.updates)
 
-    taken_goes : (t : Taken) → take v.state a (Server.all_ops_in ms) ≡ t → Goes v (Server.taken v k l a ms t)
+    taken_goes : (t : Taken) → take v.state a (Server.all_ops_in ms) ≡ t → Goes v (taken_from v k l a ms t)
     taken_goes Nothing e = talks items k a low v (Server.nothing v) ms (calm_goes v _ nothing) sound
     taken_goes (Gap expected got) e = calm_goes v _ (shuts v h k l i 4402 (Server.expected_got (codes "clock gap") expected got))
-    taken_goes (Takes u) e = by_shut v h k l i (nat_le v.limits.updates v.state.count) 4406 (codes "room full " ++ decimal v.state.count) (Server.act_all (Server.nothing v) k a (Some u) ms) (λ full.
+    taken_goes (Takes u) e = by_shut v h k l i (nat_le v.limits.updates v.state.count) 4406 (codes "room full " ++ decimal v.state.count) (act_from (Server.nothing v) k a (Some u) ms) (λ full.
         let x = slice_there v.state.sessions a in_list.0 in_list.1 in
         let ops = all_ops_sound ms sound in
         waits items k a low v u (follows_taken v.state a (Server.all_ops_in ms) u x.0 h.state x.1 ops.0 ops.1 e (room_for full)) (Server.nothing v) ms nothing sound)
@@ -458,7 +459,7 @@ module _ (items : ItemsOfValid) (v : Server.Server) (h : IsSoundServer v) (k : �
     owned_goes None = unless (barred l.decision ms)
       where
         unless : (bar : Option Decision) → Goes v (Server.permitted_unless v k l a ms bar)
-        unless None = taken_goes (take v.state a (Server.all_ops_in ms)) refl
+        unless None = subst (Goes v) (sym (taken_is v k l a ms (take v.state a (Server.all_ops_in ms)))) (taken_goes (take v.state a (Server.all_ops_in ms)) refl)
         unless (Some bar) = calm_goes v _ (shuts v h k l i 4403 (refusal_text bar))
 
     session_goes : Goes v (Server.session_frame v k l a ms)

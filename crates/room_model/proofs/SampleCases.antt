@@ -38,14 +38,14 @@ elsewhere v h = ap (λ was. take 1 (outs_of v was (left_in v))) h
 
 before_the_event : (v : Server.Server) (u : TakenUpdate) (e : Json) (os : List Op)
     → entries v.links ≡ (1, of_session 1) ∷ (2, of_session 2) ∷ [] → entries (remove v.links 1) ≡ (2, of_session 2) ∷ []
-    → (Server.act_all (Server.nothing v) 1 1 (Some u) (client.Update [] ∷ client.Broadcast e ∷ client.Update os ∷ [])).outs
+    → (Server.act_all v 1 1 (Some u) (client.Update [] ∷ client.Broadcast e ∷ client.Update os ∷ [])).outs
     ≡ (1, Message (server.Update (v.state.count + 1) (ops_of u))) ∷ (2, Message (server.Update (v.state.count + 1) (ops_of u)))
     ∷ (2, Message (server.Broadcast 1 e)) ∷ []
 before_the_event v u e os h i =
     let sent : Down = Message (server.Update (v.state.count + 1) (ops_of u)) in
     let told : List (ℕ × Link) → List (ℕ × Down) = λ es. Server.to_each Server.has_session (Message (server.Broadcast 1 e)) es in
-    ap (λ es. (Server.to_each Server.has_fetched sent es ++ told (entries (remove v.links 1))) ++ []) h
-    ∙ ap (λ es. ((1, sent) ∷ (2, sent) ∷ told es) ++ []) i
+    ap (λ es. Server.to_each Server.has_fetched sent es ++ (told (entries (remove v.links 1)) ++ [])) h
+    ∙ ap (λ es. (1, sent) ∷ (2, sent) ∷ (told es ++ [])) i
 
 one_part : (vs : List Value) → length vs ≡ 1000 → Server.parts_of vs ≡ (vs, false) ∷ []
 one_part vs h =

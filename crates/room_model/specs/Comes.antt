@@ -227,17 +227,21 @@ then_took so_far out = record {
   notices = so_far.notices ++ out.notices;
 }
 
-abbrev pub took_next : Took → Result Took FrameFault → Result Took Refusal
-took_next so_far (Err fault) = refused so_far.account fault
-took_next so_far (Ok out) = Ok (then_took so_far out)
+abbrev pub or_lost : Account → Result Took FrameFault → Result Took Refusal
+or_lost x (Err fault) = refused x fault
+or_lost x (Ok out) = Ok out
 
-abbrev pub all_come : Result Took Refusal → List ServerMsg → Result Took Refusal
-all_come so_far [] = so_far
-all_come so_far (m ∷ ms) = all_come (first so_far (λ (out : Took). took_next out (comes out.account m))) ms
+abbrev pub then_more : Took → Result Took Refusal → Result Took Refusal
+then_more out (Err refusal) = Err refusal
+then_more out (Ok more) = Ok (then_took out more)
+
+abbrev pub all_come : Account → List ServerMsg → Result Took Refusal
+all_come x [] = Ok (took x)
+all_come x (m ∷ ms) = first (or_lost x (comes x m)) (λ (out : Took). then_more out (all_come out.account ms))
 
 abbrev pub frame_comes : Account → ServerFrame → Result Took Refusal
 frame_comes x Pong = Ok (took x)
-frame_comes x (Msgs ms) = all_come (Ok (took x)) ms
+frame_comes x (Msgs ms) = all_come x ms
 
 -- what was read of a frame
 abbrev pub frame : Account → Result ServerFrame Reason → Result Took Refusal

@@ -30,7 +30,7 @@ use Rattle.room_model.specs.History.{empty_history, note, pause, resume, undone,
 use Rattle.room_model.specs.Notices.{Fields as FieldsOf, Take as TakeOf, Move, Key, apply_all}
 use Rattle.room_model.specs.Comes.{told_by, other_parts}
 use Rattle.room_model.specs.Access.{Read}
-use Rattle.room_model.specs.Server.{Server, Link, Down, Closed, Pong, Message, left_to, shut, frame_at, messages, greet, session_frame, owned, permitted, taken, nothing, act_all, commit, parts_of, resumed, without_actor, with_session}
+use Rattle.room_model.specs.Server.{Server, Link, Down, Closed, Pong, Message, left_to, shut, frame_at, messages, greet, session_frame, owned, permitted, taken, act_all, commit, parts_of, resumed, without_actor, with_session}
 use Rattle.room_model.specs.World.{World, Host, Running, Stopped, Fuse, answer, compact, start}
 use Rattle.room_model.specs.Lines.{How, Old, New, Torn}
 
@@ -197,7 +197,7 @@ pub record Samples : Type 0 where
   -- the one update of a frame is done at the place of the first list of operations, an empty one too
   pub before_the_event : (v : Server) (u : TakenUpdate) (e : Json) (os : List Op)
       → entries v.links ≡ (1, of_session 1) ∷ (2, of_session 2) ∷ [] → entries (remove v.links 1) ≡ (2, of_session 2) ∷ []
-      → (act_all (nothing v) 1 1 (Some u) (client.Update [] ∷ client.Broadcast e ∷ client.Update os ∷ [])).outs
+      → (act_all v 1 1 (Some u) (client.Update [] ∷ client.Broadcast e ∷ client.Update os ∷ [])).outs
       ≡ (1, Message (server.Update (v.state.count + 1) (ops_of u))) ∷ (2, Message (server.Update (v.state.count + 1) (ops_of u)))
       ∷ (2, Message (server.Broadcast 1 e)) ∷ []
   -- a state of 1,000 items goes in one part, and one of 1,001 in two

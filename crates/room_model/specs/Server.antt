@@ -328,19 +328,21 @@ waits_after waits (client.Broadcast e) = waits
 waits_after waits client.Fetch = waits
 waits_after waits (client.Update os) = None
 
-abbrev pub act_all : Served → ℕ → ℕ → Option Update → List ClientMsg → Served
-act_all so_far k a waits [] = so_far
-act_all so_far k a waits (m ∷ ms) = act_all (then_served so_far (acts so_far.server k a waits m)) k a (waits_after waits m) ms
+abbrev pub act_all : Server → ℕ → ℕ → Option Update → List ClientMsg → Served
+act_all v k a waits [] = nothing v
+act_all v k a waits (m ∷ ms) =
+    let out = acts v k a waits m in
+    then_served out (act_all out.server k a (waits_after waits m) ms)
 
 -- the tests of a session's frame, after those of its text, in their order
 
 abbrev pub taken : Server → ℕ → Link → ℕ → List ClientMsg → Taken → Served
-taken v k l a ms Nothing = act_all (nothing v) k a None ms
+taken v k l a ms Nothing = act_all v k a None ms
 taken v k l a ms (Gap expected got) = shut v k l 4402 (expected_got (codes "clock gap") expected got)
 taken v k l a ms (Takes u) =
     if nat_le v.limits.updates v.state.count
     then shut v k l 4406 (codes "room full " ++ decimal v.state.count)
-    else act_all (nothing v) k a (Some u) ms
+    else act_all v k a (Some u) ms
 
 abbrev pub permitted_unless : Server → ℕ → Link → ℕ → List ClientMsg → Option Decision → Served
 permitted_unless v k l a ms None = taken v k l a ms (take v.state a (all_ops_in ms))

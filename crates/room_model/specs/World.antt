@@ -349,13 +349,15 @@ abbrev pub or_quiet : World → Option Stepped → Stepped
 or_quiet w None = quiet w
 or_quiet w (Some out) = out
 
--- where nothing waits, no step does anything
-abbrev pub drain_from : ℕ → ℕ → Stepped → Stepped
-drain_from zero line so_far = so_far
-drain_from (suc n) line so_far = drain_from n line (then_stepped so_far (or_quiet so_far.world (drain_next so_far.world line)))
+-- where nothing waits, nothing is done
+abbrev pub drain_once : World → ℕ → Stepped
+drain_once w line = or_quiet w (drain_next w line)
 
 unfoldable pub drain : World → ℕ → ℕ → Stepped
-drain w line n = drain_from n line (quiet w)
+drain w line zero = quiet w
+drain w line (suc n) =
+    let out = drain_once w line in
+    then_stepped out (drain out.world line n)
 
 -- calls of a client
 
