@@ -43,7 +43,7 @@ pub record LeadsBack (s : Nodes) (k : ℕ) (x : Account) : Type 0 where
 -- a call leaves as many entries, or one more
 pub record Leads (s : Nodes) (k : ℕ) (x : Account) : Type 0 where
   pub count : ℕ
-  pub up : count ≤ suc k
+  pub grown : count ≤ suc k
   pub leads : LeadsBack s count x
 
 abbrev pub Reverses : Nodes → List Body → Type 0

@@ -44,9 +44,6 @@ pub record Done : Type 0 where
   pub issues : List Batch
   pub notices : List Notice
 
-abbrev pub nothing_done : Account → Done
-nothing_done x = record { account = x; issues = []; notices = [] }
-
 abbrev pub op_change : Body → Change
 op_change b = OpChange b
 
