@@ -8,11 +8,11 @@ use Rattle.room_log.specs.Follows.{IsValidState}
 use Rattle.room_msg.specs.declared.messages.ServerMsg.{ServerMsg}
 use Rattle.room_msg.specs.declared.messages.ServerFrame.TheVariants.{Msgs}
 use Rattle.room_model.specs.Account.{Batch}
-use Rattle.room_model.specs.Comes.{frame_comes}
+use Rattle.room_model.specs.Receive.{receive_frame}
 use Rattle.room_model.specs.Lines as lines
 use Rattle.room_model.specs.Lines.{Line}
-use Rattle.room_model.specs.Server.{Server, Down, Message, Up, serve}
-use Rattle.room_model.specs.World.{Running, seat, account}
+use Rattle.room_model.specs.Server.{Server, Outbound, Message, Inbound, serve}
+use Rattle.room_model.specs.World.{Running, slot, account}
 use Rattle.room_model.specs.Run.{run, opened, IsUndisturbed}
 use Rattle.room_laws.specs.Invariant.{conn}
 use Rattle.room_laws.specs.Laws.{ShowsLog, Kept, spares_all}
@@ -28,13 +28,13 @@ abbrev pub AlwaysOnce : Type 0
 AlwaysOnce = (s : State) (ls : List (ℕ × Line)) (c : ℕ) → IsValidState s → AreLines ls → IsUndisturbed (run (opened s) ls) c → Kept s (run (opened s) ls) c
 
 abbrev pub AlwaysTaken : Type 0
-AlwaysTaken = (s : State) (ls : List (ℕ × Line)) (c k : ℕ) (m : ServerMsg) (ms : List Down) → IsValidState s → AreLines ls → IsUndisturbed (run (opened s) ls) c
-    → (seat (run (opened s) ls).world c).present ≡ Some k → (conn (run (opened s) ls).world k).down ≡ Message m ∷ ms
-    → IsOk (frame_comes (account (run (opened s) ls).world c) (Msgs (m ∷ [])))
+AlwaysTaken = (s : State) (ls : List (ℕ × Line)) (c k : ℕ) (m : ServerMsg) (ms : List Outbound) → IsValidState s → AreLines ls → IsUndisturbed (run (opened s) ls) c
+    → (slot (run (opened s) ls).world c).present ≡ Some k → (conn (run (opened s) ls).world k).outbound ≡ Message m ∷ ms
+    → IsOk (receive_frame (account (run (opened s) ls).world c) (Msgs (m ∷ [])))
 
 abbrev pub AlwaysServed : Type 0
-AlwaysServed = (s : State) (ls : List (ℕ × Line)) (c k : ℕ) (v : Server) (u : Up) (us : List Up) → IsValidState s → AreLines ls → IsUndisturbed (run (opened s) ls) c
-    → (run (opened s) ls).world.host ≡ Running v → (conn (run (opened s) ls).world k).owner ≡ Some c → (conn (run (opened s) ls).world k).up ≡ u ∷ us
+AlwaysServed = (s : State) (ls : List (ℕ × Line)) (c k : ℕ) (v : Server) (u : Inbound) (us : List Inbound) → IsValidState s → AreLines ls → IsUndisturbed (run (opened s) ls) c
+    → (run (opened s) ls).world.host ≡ Running v → (conn (run (opened s) ls).world k).owner ≡ Some c → (conn (run (opened s) ls).world k).inbound ≡ u ∷ us
     → spares_all (serve v k u).outs ≡ true
 
 -- what undoing asks of the tree that was shown and of the batch that was made on it: fields stand in byte order

@@ -8,9 +8,9 @@ use Rattle.room_model.specs.Account.{Batch, actor, pending_bodies, shown}
 use Rattle.room_model.specs.Lines.{Line}
 use Rattle.room_msg.specs.declared.messages.ServerMsg.{ServerMsg}
 use Rattle.room_msg.specs.declared.messages.ServerFrame.TheVariants.{Msgs}
-use Rattle.room_model.specs.Comes.{frame_comes}
-use Rattle.room_model.specs.Server.{Server, Down, Pong, Message, Closed, Up, serve}
-use Rattle.room_model.specs.World.{Running, state_in, seat, account}
+use Rattle.room_model.specs.Receive.{receive_frame}
+use Rattle.room_model.specs.Server.{Server, Outbound, Pong, Message, Closed, Inbound, serve}
+use Rattle.room_model.specs.World.{Running, state_in, slot, account}
 use Rattle.room_model.specs.Run.{Run, run, opened, issued_of, IsUndisturbed}
 use Rattle.room_model.specs.Sound.{RunsOn}
 use Rattle.room_laws.specs.Invariant.{conn}
@@ -58,24 +58,24 @@ abbrev pub EachOnce : Type 0
 EachOnce = (s : State) (ls : List (ℕ × Line)) (c : ℕ) → IsReadable s ls → IsUndisturbed (run (opened s) ls) c → Kept s (run (opened s) ls) c
 
 -- the closes that a client may get for what it sends: the room is full, or its session goes on elsewhere
-abbrev pub spares : Down → Bool
+abbrev pub spares : Outbound → Bool
 spares Pong = true
 spares (Message m) = true
 spares (Closed code text) = (code == 4406) || (code == 4408)
 
-abbrev pub spares_all : List (ℕ × Down) → Bool
+abbrev pub spares_all : List (ℕ × Outbound) → Bool
 spares_all [] = true
 spares_all (o ∷ os) = spares o.1 && spares_all os
 
--- an undisturbed client refuses no message that comes down
+-- an undisturbed client refuses no message that waits for it
 abbrev pub EachTaken : Type 0
-EachTaken = (s : State) (ls : List (ℕ × Line)) (c k : ℕ) (m : ServerMsg) (ms : List Down) → IsReadable s ls → IsUndisturbed (run (opened s) ls) c
-    → (seat (run (opened s) ls).world c).present ≡ Some k → (conn (run (opened s) ls).world k).down ≡ Message m ∷ ms
-    → IsOk (frame_comes (account (run (opened s) ls).world c) (Msgs (m ∷ [])))
+EachTaken = (s : State) (ls : List (ℕ × Line)) (c k : ℕ) (m : ServerMsg) (ms : List Outbound) → IsReadable s ls → IsUndisturbed (run (opened s) ls) c
+    → (slot (run (opened s) ls).world c).present ≡ Some k → (conn (run (opened s) ls).world k).outbound ≡ Message m ∷ ms
+    → IsOk (receive_frame (account (run (opened s) ls).world c) (Msgs (m ∷ [])))
 
 -- and no frame that it sent is answered by another close than these: not as a bad frame, a bad resume, a gap in its
 -- clocks or an operation of somebody else
 abbrev pub EachServed : Type 0
-EachServed = (s : State) (ls : List (ℕ × Line)) (c k : ℕ) (v : Server) (u : Up) (us : List Up) → IsReadable s ls → IsUndisturbed (run (opened s) ls) c
-    → (run (opened s) ls).world.host ≡ Running v → (conn (run (opened s) ls).world k).owner ≡ Some c → (conn (run (opened s) ls).world k).up ≡ u ∷ us
+EachServed = (s : State) (ls : List (ℕ × Line)) (c k : ℕ) (v : Server) (u : Inbound) (us : List Inbound) → IsReadable s ls → IsUndisturbed (run (opened s) ls) c
+    → (run (opened s) ls).world.host ≡ Running v → (conn (run (opened s) ls).world k).owner ≡ Some c → (conn (run (opened s) ls).world k).inbound ≡ u ∷ us
     → spares_all (serve v k u).outs ≡ true

@@ -39,7 +39,7 @@ pub record Ledger (s : State) (last a : ℕ) (done coming : List Update) (all pe
   pub all_is : all ≡ accepted ++ rest
   pub last_is : upto 0 accepted ≡ last
   pub chain : RunsOn 0 all
-  pub took : Matches a s.tree 0 done all pending told
+  pub received : Matches a s.tree 0 done all pending told
   pub takes : Matches a (tree_after s.tree done) told coming pending rest last
 
 -- none of these updates is of the actor

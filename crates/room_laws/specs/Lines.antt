@@ -6,7 +6,7 @@ use Rattle.room_msg.specs.declared.messages.ServerMsg.{ServerMsg}
 use Rattle.room_model.specs.Account.{Batch, OpenBatch, shown}
 use Rattle.room_model.specs.History.{undo_entry}
 use Rattle.room_nodes.specs.Reversal.{reverse_all}
-use Rattle.room_model.specs.Server.{Down, Message}
+use Rattle.room_model.specs.Server.{Outbound, Message}
 use Rattle.room_model.specs.Lines as lines
 use Rattle.room_model.specs.World.{World, Conn, step, account}
 use Rattle.room_model.specs.Run.{Run, run, line}
@@ -15,8 +15,8 @@ use Rattle.room_laws.specs.Open.{brings_none}
 -- no state and no update comes down to the client c by the line, it doesn't end a batch of c, and it isn't a drain, which
 -- is as many lines that bring one frame each
 
-pub record ComesQuietly (w : World) (c k : ℕ) : Type 0 where
-  pub quiet : (q : Conn) (m : ServerMsg) (ms : List Down) → get w.conns k ≡ Some q → q.owner ≡ Some c → q.down ≡ Message m ∷ ms → brings_none m ≡ true
+pub record ReceivesQuietly (w : World) (c k : ℕ) : Type 0 where
+  pub quiet : (q : Conn) (m : ServerMsg) (ms : List Outbound) → get w.conns k ≡ Some q → q.owner ≡ Some c → q.outbound ≡ Message m ∷ ms → brings_none m ≡ true
 
 -- a call that doesn't end a batch
 abbrev pub EndsNone : lines.Call → Type 0
@@ -36,8 +36,8 @@ EndsNone lines.Resend = Unit {0}
 EndsNone lines.Cut = Unit {0}
 
 abbrev pub IsQuietOn : World → ℕ → ℕ → lines.Traffic → Type 0
-IsQuietOn w c k lines.GoesUp = Unit {0}
-IsQuietOn w c k lines.ComesDown = ComesQuietly w c k
+IsQuietOn w c k lines.Up = Unit {0}
+IsQuietOn w c k lines.Down = ReceivesQuietly w c k
 IsQuietOn w c k lines.Gone = Unit {0}
 IsQuietOn w c k (lines.Raw text) = Unit {0}
 

@@ -12,7 +12,7 @@ use Rattle.room_nodes.specs.Reversal.{reverse_all}
 use Rattle.room_model.specs.History.{note}
 use Rattle.room_model.specs.Account.{Account, Batch, OpenBatch, issued, all_bodies, shown}
 use Rattle.room_model.specs.Calls as calls
-use Rattle.room_model.specs.Comes as messages
+use Rattle.room_model.specs.Receive as messages
 
 -- what a client shows without its open batch
 abbrev pub base_over : Account → Option Nodes → Option Nodes
@@ -62,7 +62,7 @@ pub record KeepsOpen : Type 0 where
   pub resent : (t : Nodes) (x : Account) → IsOpenOn t x → IsOpenOn t (calls.resent x)
   pub lost : (t : Nodes) (x : Account) → IsOpenOn t x → IsOpenOn t (calls.lost x)
   pub dialled : (t : Nodes) (x : Account) → IsOpenOn t x → IsOpenOn t (calls.dialled x)
-  pub comes : (t : Nodes) (x : Account) (m : ServerMsg) (out : messages.Took) → brings_none m ≡ true → IsOpenOn t x → messages.comes x m ≡ Ok out → IsOpenOn t out.account
+  pub receive : (t : Nodes) (x : Account) (m : ServerMsg) (out : messages.Received) → brings_none m ≡ true → IsOpenOn t x → messages.receive x m ≡ Ok out → IsOpenOn t out.account
   pub batch_end : (t : Nodes) (x : Account) (b : Batch) (out : calls.Done) → IsOpenOn t x → calls.batch_end x ≡ Ok out → out.issues ≡ b ∷ [] → Notes t x b out
   pub alone : (t : Nodes) (x : Account) (e : Edit) (b : Batch) (out : calls.Done) → x.batch ≡ None → shown x ≡ Some t → calls.edit x e ≡ Ok out → out.issues ≡ b ∷ [] → Notes t x b out
-  pub go_back : (way : calls.Way) (x : Account) (e : List Change) (b : Batch) (out : calls.Done) → calls.entry_of way x.history ≡ Some e → calls.go_back way x ≡ Ok (Some out) → out.issues ≡ b ∷ [] → b.bodies ≡ calls.entry_bodies e
+  pub go_back : (way : calls.Direction) (x : Account) (e : List Change) (b : Batch) (out : calls.Done) → calls.entry_of way x.history ≡ Some e → calls.go_back way x ≡ Ok (Some out) → out.issues ≡ b ∷ [] → b.bodies ≡ calls.entry_bodies e

@@ -28,9 +28,9 @@ use Rattle.room_model.specs.Edits.{Clocks, Edit, NoNode, WrongKind, Push, target
 use Rattle.room_nodes.specs.Reversal.{creation, key_restored, old_fields, old_update, gone_or}
 use Rattle.room_model.specs.History.{empty_history, note, pause, resume, undone, undo_count, redo_count, undo_entry}
 use Rattle.room_model.specs.Notices.{Fields as FieldsOf, Take as TakeOf, Move, Key, apply_all}
-use Rattle.room_model.specs.Comes.{told_by, other_parts}
+use Rattle.room_model.specs.Receive.{told_by, other_parts}
 use Rattle.room_model.specs.Access.{Read}
-use Rattle.room_model.specs.Server.{Server, Link, Down, Closed, Pong, Message, left_to, shut, frame_at, messages, greet, session_frame, owned, permitted, taken, act_all, commit, parts_of, resumed, without_actor, with_session}
+use Rattle.room_model.specs.Server.{Server, Link, Outbound, Closed, Pong, Message, left_to, shut, frame_at, messages, greet, session_frame, owned, permitted, taken, act_all, commit, parts_of, resumed, without_actor, with_session}
 use Rattle.room_model.specs.World.{World, Host, Running, Stopped, Fuse, answer, compact, start}
 use Rattle.room_model.specs.Lines.{How, Old, New, Torn}
 
@@ -77,7 +77,7 @@ abbrev pub bare_link : Link
 bare_link = record { key = 5; actor = None; fetched = false; decision = None }
 
 -- each send by its number: that of the message, or the code of the close
-abbrev pub number_of : Down → ℕ
+abbrev pub number_of : Outbound → ℕ
 number_of Pong = 0
 number_of (Closed code text) = code
 number_of (Message (server.Presence a target patch)) = 100
@@ -88,7 +88,7 @@ number_of (Message (server.RoomState a key users)) = 104
 number_of (Message (server.State seq last items more)) = 200
 number_of (Message (server.Update seq os)) = 201
 
-abbrev pub numbered : ℕ × Down → ℕ × ℕ
+abbrev pub numbered : ℕ × Outbound → ℕ × ℕ
 numbered o = (o.0, number_of o.1)
 
 -- a world whose server stops at its call of the disk of that number

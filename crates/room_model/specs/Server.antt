@@ -30,15 +30,15 @@ use Rattle.room_log.specs.Log.{Session, State, Update, Entry, Join, Updated, act
 use Rattle.room_log.specs.Take.{Taken, Nothing, Gap, Takes, take}
 use Rattle.room_model.specs.Access.{Access, Decision, decide, group_of, barred, refusal_text}
 
--- what comes down a connection: a message, the answer to a ping, or a close with its code and text
-pub data Down : Type 0 where
-  Pong : Down
-  Message : ServerMsg → Down
-  Closed : (code : ℕ) → (text : List ℕ) → Down
+-- what is outbound on a connection: a message, the answer to a ping, or a close with its code and text
+pub data Outbound : Type 0 where
+  Pong : Outbound
+  Message : ServerMsg → Outbound
+  Closed : (code : ℕ) → (text : List ℕ) → Outbound
 
--- what goes up: what was read of a frame
-abbrev pub Up : Type 0
-Up = Result ClientFrame Reason
+-- what is inbound: what was read of a frame
+abbrev pub Inbound : Type 0
+Inbound = Result ClientFrame Reason
 
 -- an attached connection; its actor once it has a session, and what was decided at its hello where access was asked for
 pub record Link : Type 0 where
@@ -61,10 +61,10 @@ pub record Server : Type 0 where
 -- a step's outcome: the server, sends and closes in order, and at most one entry
 pub record Served : Type 0 where
   pub server : Server
-  pub outs : List (ℕ × Down)
+  pub outs : List (ℕ × Outbound)
   pub entry : Option Entry
 
-abbrev pub served : Server → List (ℕ × Down) → Served
+abbrev pub served : Server → List (ℕ × Outbound) → Served
 served v outs = record { server = v; outs = outs; entry = None }
 
 abbrev pub nothing : Server → Served
@@ -75,7 +75,7 @@ with_links v ls = record v { links = ls }
 
 -- sends to several connections go in rising order
 
-abbrev pub to_each : (Link → Bool) → Down → List (ℕ × Link) → List (ℕ × Down)
+abbrev pub to_each : (Link → Bool) → Outbound → List (ℕ × Link) → List (ℕ × Outbound)
 to_each p m [] = []
 to_each p m (e ∷ es) = if p e.1 then (e.0, m) ∷ to_each p m es else to_each p m es
 
@@ -93,12 +93,12 @@ abbrev pub holds : ℕ → Link → Bool
 holds a l = is_actor a l.actor
 
 -- to the attached connections with a session but this one
-abbrev pub to_others : FinMap nat_cmp Link → ℕ → ServerMsg → List (ℕ × Down)
+abbrev pub to_others : FinMap nat_cmp Link → ℕ → ServerMsg → List (ℕ × Outbound)
 to_others ls k m = to_each has_session (Message m) (entries (remove ls k))
 
 -- leaving
 
-abbrev pub left_to : FinMap nat_cmp Link → ℕ → Option ℕ → List (ℕ × Down)
+abbrev pub left_to : FinMap nat_cmp Link → ℕ → Option ℕ → List (ℕ × Outbound)
 left_to ls k None = []
 left_to ls k (Some a) = to_others ls k (server.Left a)
 
@@ -156,7 +156,7 @@ abbrev pub users_of : List Session → FinMap nat_cmp Link → List (ℕ × List
 users_of ss ls = entries (from_entries {R = nat_cmp} (users_among ss (entries ls)))
 
 -- the session a, which the others are told of; `before` goes first
-abbrev pub welcome : Server → ℕ → ℕ → ℕ → List (ℕ × Down) → Option Entry → Served
+abbrev pub welcome : Server → ℕ → ℕ → ℕ → List (ℕ × Outbound) → Option Entry → Served
 welcome v k a key before entry = record {
   server = v;
   outs = before ++ (k, Message (server.RoomState a key (users_of v.state.sessions (remove v.links k)))) ∷ to_others v.links k (server.Joined a);
@@ -178,7 +178,7 @@ join v k l h decision =
     (record v { state = joined v.state l.key (name_of h.name); links = insert v.links k (with_session l a decision) })
     k a l.key [] (Some (Join a l.key (name_of h.name)))
 
-abbrev pub elsewhere : Down
+abbrev pub elsewhere : Outbound
 elsewhere = Closed 4408 (codes "resumed elsewhere")
 
 abbrev pub not_held_by : ℕ → Option Link → Bool
@@ -281,7 +281,7 @@ parts_within (suc n) vs = if nat_le (length vs) 1000 then (vs, false) ∷ [] els
 abbrev pub parts_of : List Value → List (List Value × Bool)
 parts_of vs = parts_within (length vs) vs
 
-abbrev pub part_sends : ℕ → ℕ → ℕ → List (List Value × Bool) → List (ℕ × Down)
+abbrev pub part_sends : ℕ → ℕ → ℕ → List (List Value × Bool) → List (ℕ × Outbound)
 part_sends k seq last [] = []
 part_sends k seq last (p ∷ ps) = (k, Message (server.State seq last p.0 p.1)) ∷ part_sends k seq last ps
 
@@ -294,7 +294,7 @@ fetch v k a = served (fetched_at v k (get v.links k))
     (part_sends k v.state.count (last_of v.state.sessions a) (parts_of (items_of v.state.tree)))
 
 -- a presence goes to the others, or, full, to the connection of one actor, if it is attached
-abbrev pub presence_sends : Server → ℕ → ℕ → Option ℤ → List (List ℕ × Value) → List (ℕ × Down)
+abbrev pub presence_sends : Server → ℕ → ℕ → Option ℤ → List (List ℕ × Value) → List (ℕ × Outbound)
 presence_sends v k a None patch = to_others v.links k (server.Presence a None patch)
 presence_sends v k a (Some (negsuc n)) patch = to_others v.links k (server.Presence a (Some (negsuc n)) patch)
 presence_sends v k a (Some (pos b)) patch = to_each (holds b) (Message (server.Presence a (Some (pos b)) patch)) (entries v.links)
@@ -362,15 +362,15 @@ abbrev pub messages : Server → ℕ → Link → List ClientMsg → Option ℕ 
 messages v k l ms None = hello v k l (only_hello ms)
 messages v k l ms (Some a) = session_frame v k l a ms
 
-abbrev pub frame_at : Server → ℕ → Link → Up → Served
+abbrev pub frame_at : Server → ℕ → Link → Inbound → Served
 frame_at v k l (Err r) = bad_frame v k l r
 frame_at v k l (Ok Ping) = served v ((k, Pong) ∷ [])
 frame_at v k l (Ok (Msgs ms)) = messages v k l ms l.actor
 
 -- a frame of a connection that isn't attached is passed over
-abbrev pub serve_from : Server → ℕ → Up → Option Link → Served
-serve_from v k up None = nothing v
-serve_from v k up (Some l) = frame_at v k l up
+abbrev pub serve_from : Server → ℕ → Inbound → Option Link → Served
+serve_from v k inbound None = nothing v
+serve_from v k inbound (Some l) = frame_at v k l inbound
 
-abbrev pub serve : Server → ℕ → Up → Served
-serve v k up = serve_from v k up (get v.links k)
+abbrev pub serve : Server → ℕ → Inbound → Served
+serve v k inbound = serve_from v k inbound (get v.links k)

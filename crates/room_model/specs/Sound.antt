@@ -27,8 +27,8 @@ use Rattle.room_model.specs.History.{History}
 use Rattle.room_model.specs.Presence.{Others}
 use Rattle.room_model.specs.Account.{Account, Batch, OpenBatch, Stage, Synced, issued, ends, bodies_in, frame_of_event, size_of, most_bytes}
 use Rattle.room_model.specs.Calls.{entry_bodies, presence_size}
-use Rattle.room_model.specs.Comes.{parts_items}
-use Rattle.room_model.specs.Server.{Up}
+use Rattle.room_model.specs.Receive.{parts_items}
+use Rattle.room_model.specs.Server.{Inbound}
 use Rattle.room_model.specs.Lines as lines
 use Rattle.room_model.specs.Lines.{Line}
 
@@ -182,7 +182,7 @@ IsSoundEdit (edits.Take x n) = IsNodeInRange x
 IsSoundEdit (edits.Clear x) = IsNodeInRange x
 
 -- what is read of a frame is sound, as its reader says, and no deeper than the levels of a frame make it
-abbrev pub IsReadSound : Up → Type 0
+abbrev pub IsReadSound : Inbound → Type 0
 IsReadSound (Err reason) = ⊤
 IsReadSound (Ok f) = IsSoundClientFrame f × IsShallowClientFrame f
 
@@ -208,8 +208,8 @@ IsCall lines.Resend = ⊤
 IsCall lines.Cut = ⊤
 
 abbrev pub IsTraffic : lines.Traffic → Type 0
-IsTraffic lines.GoesUp = ⊤
-IsTraffic lines.ComesDown = ⊤
+IsTraffic lines.Up = ⊤
+IsTraffic lines.Down = ⊤
 IsTraffic lines.Gone = ⊤
 IsTraffic (lines.Raw text) = IsReadSound (client_frame_in text)
 
