@@ -46,7 +46,11 @@ pub record ListensFor (q : Conn) (c : ℕ) : Type 0 where
   pub listens : q.listens ≡ true
 
 abbrev pub Hosts : Host → Type 0
-Hosts (Running v) = record { room : v.room ≡ room; access : v.access ≡ None; free : (k : ℕ) (l : Link) → get v.links k ≡ Some l → (l.decision ≡ None) × (0 < l.key) }
+Hosts (Running v) = record {
+  room : v.room ≡ room;
+  access : v.access ≡ None;
+  free : (k : ℕ) (l : Link) → get v.links k ≡ Some l → (l.decision ≡ None) × (0 < l.key);
+}
 Hosts (Stopped s) = Unit {0}
 
 pub record Shape (w : World) : Type 0 where
@@ -92,9 +96,14 @@ StandsIn s ss (Some w) = Stands s ss w
 -- what it holds after the updates `done`
 abbrev pub Shows : State → List Update → Stage → ℕ → Option Resume → Option Nodes → Type 0
 Shows s done stage n session None = record { unsynced : stage ≡ Synced → ⊥; none : done ≡ []; nothing : n ≡ 0 }
-Shows s done stage n session (Some t) = record { tree : t ≡ tree_after s.tree done; number : n ≡ s.count + length done; known : is_some session ≡ true }
+Shows s done stage n session (Some t) = record {
+  tree : t ≡ tree_after s.tree done;
+  number : n ≡ s.count + length done;
+  known : is_some session ≡ true;
+}
 
-pub record Own (s : State) (us : List Update) (last : ℕ) (x : Core) (all : List Batch) (done coming : List Update) : Type 0 where
+pub record Own (s : State) (us : List Update) (last : ℕ) (x : Core) (all : List Batch)
+    (done coming : List Update) : Type 0 where
   pub room : x.room ≡ room
   pub whole : us ≡ done ++ coming
   pub shows : Shows s done x.stage x.n x.session x.confirmed
@@ -117,7 +126,8 @@ NewIn s us ss (Some w) = New s us ss w
 abbrev pub Linked : Option Resume → Stage → List Outbound → Place → Option Link → Type 0
 Linked w now q end None = Unit {0}
 Linked w now q end (Some l) =
-    record { none : l.actor ≡ None; unfetched : l.fetched ≡ false; empty : q ≡ []; dialled : now ≡ Dialled; whole : end.parts ≡ [] }
+    record { none : l.actor ≡ None; unfetched : l.fetched ≡ false; empty : q ≡ []; dialled : now ≡ Dialled;
+        whole : end.parts ≡ [] }
     ⊎ record {
       resume : Resume;
       some : w ≡ Some resume;
@@ -131,10 +141,12 @@ abbrev pub place : Core → List Update → List Update → Place
 place x done coming = record { stage = x.stage; parts = x.parts; done = done; coming = coming }
 
 -- `given`: the actors that connections were given, each with the client that dialled it
-pub record Present (s : State) (us : List Update) (ss : List Session) (given : List (ℕ × Option ℕ)) (c : ℕ) (session : Option Resume) (here : Place) (q : List Outbound) (l : Option Link) : Type 0 where
+pub record Present (s : State) (us : List Update) (ss : List Session) (given : List (ℕ × Option ℕ)) (c : ℕ)
+    (session : Option Resume) (here : Place) (q : List Outbound) (l : Option Link) : Type 0 where
   pub who : Option Resume
   -- the session is the client's, or a new one, unless somebody else took it up
-  pub named : (session ≡ who) ⊎ record { unknown : session ≡ None; new : all_given c (actor_in who) given ≡ true → NewIn s us ss who }
+  pub named : (session ≡ who) ⊎ record { unknown : session ≡ None; new : all_given c (actor_in who) given ≡ true
+      → NewIn s us ss who }
   pub known : IsOn here.stage → (session ≡ who) × (is_some who ≡ true)
   -- it was begun since the opening
   pub begun : last_of s.sessions (actor_in who) ≡ 0
@@ -142,12 +154,14 @@ pub record Present (s : State) (us : List Update) (ss : List Session) (given : L
   pub waits : Waits s who here q end
   pub linked : Linked who here.stage q end l
 
-abbrev pub Standing : State → List Update → List Session → List (ℕ × Option ℕ) → ℕ → Option ℕ → Option Resume → Place → List Outbound → Option Link → Type 0
+abbrev pub Standing : State → List Update → List Session → List (ℕ × Option ℕ) → ℕ → Option ℕ → Option Resume → Place
+    → List Outbound → Option Link → Type 0
 Standing s us ss given c None session here q l = record { idle : here.stage ≡ Idle; bare : here.parts ≡ [] }
 Standing s us ss given c (Some k) session here q l = Present s us ss given c session here q l
 
 -- a client with its present connection
-pub record Client (s : State) (us : List Update) (ss : List Session) (given : List (ℕ × Option ℕ)) (c : ℕ) (present : Option ℕ) (x : Core) (all : List Batch) (q : List Outbound) (l : Option Link) : Type 0 where
+pub record Client (s : State) (us : List Update) (ss : List Session) (given : List (ℕ × Option ℕ)) (c : ℕ)
+    (present : Option ℕ) (x : Core) (all : List Batch) (q : List Outbound) (l : Option Link) : Type 0 where
   pub done : List Update
   pub coming : List Update
   pub own : Own s us (last_of ss (actor x)) x all done coming
@@ -157,7 +171,8 @@ pub record Client (s : State) (us : List Update) (ss : List Session) (given : Li
 -- the inbound queue of a client's connection; `now` says that it is the present one
 
 abbrev pub hello_frame : Option Resume → Inbound
-hello_frame resume = Ok (frame.Msgs (client.Hello (record { room = room; resume = resume; name = None; «pass» = None }) ∷ []))
+hello_frame resume =
+    Ok (frame.Msgs (client.Hello (record { room = room; resume = resume; name = None; «pass» = None }) ∷ []))
 
 abbrev pub InboundAt : Type 0 → Option Resume → ℕ → List Batch → ℕ → Option ℕ → List Inbound → Type 0
 InboundAt now session tried all last None q = record {
@@ -166,7 +181,12 @@ InboundAt now session tried all last None q = record {
   old : (resume ≡ None) ⊎ (resume ≡ session);
   current : now → resume ≡ session;
 }
-InboundAt now session tried all last (Some b) q = record { some : 0 < b; reach : ℕ; order : InOrder b (actor_in session) all last q reach; sent : now → tried ≤ reach }
+InboundAt now session tried all last (Some b) q = record {
+  some : 0 < b;
+  reach : ℕ;
+  order : InOrder b (actor_in session) all last q reach;
+  sent : now → tried ≤ reach;
+}
 
 abbrev pub Inbounds : Type 0 → Option Resume → ℕ → List Batch → ℕ → Option Link → List Inbound → Type 0
 Inbounds now session tried all last None q = q ≡ []
@@ -184,7 +204,8 @@ abbrev pub present_link : World → Option ℕ → Option Link
 present_link w None = None
 present_link w (Some k) = link w k
 
--- A connection that the server gave an actor: if nobody but the client c was ever given that actor, the connection is c's.
+-- A connection that the server gave an actor: if nobody but the client c was ever given that actor, the connection is
+-- c's.
 abbrev pub IsGiven : List (ℕ × Option ℕ) → Option ℕ → ℕ → Type 0
 IsGiven given owner a = (c : ℕ) → all_given c a given ≡ true → owner ≡ Some c
 
@@ -192,11 +213,13 @@ IsGiven given owner a = (c : ℕ) → all_given c a given ≡ true → owner ≡
 pub record Inv (s : State) (r : Run) : Type 0 where
   pub shape : Shape r.world
   pub logged : Logged s (updates_of r.log) (state_in r.world.host)
-  pub given : (k a : ℕ) (l : Link) → link r.world k ≡ Some l → l.actor ≡ Some a → IsGiven r.given (conn r.world k).owner a
+  pub given : (k a : ℕ) (l : Link) → link r.world k ≡ Some l → l.actor ≡ Some a
+      → IsGiven r.given (conn r.world k).owner a
   pub actors : (k a : ℕ) (l : Link) → link r.world k ≡ Some l → l.actor ≡ Some a → (0 < a) × (a ≤ length (sessions r))
   pub nobody : (c : ℕ) → all_given c 0 r.given ≡ true
   pub client : (c : ℕ) → IsUndisturbed r c
       → Client s (updates_of r.log) (sessions r) r.given c (slot r.world c).present (core_of r.world c) (issued_by r c)
       (present_outbound r.world (slot r.world c).present) (present_link r.world (slot r.world c).present)
   pub inbounds : (c k : ℕ) → (conn r.world k).owner ≡ Some c → IsUndisturbed r c
-      → Inbounds ((slot r.world c).present ≡ Some k) (core_of r.world c).session (tried (core_of r.world c)) (issued_by r c) (last_of (sessions r) (actor (core_of r.world c))) (link r.world k) (conn r.world k).inbound
+      → Inbounds ((slot r.world c).present ≡ Some k) (core_of r.world c).session (tried (core_of r.world c))
+      (issued_by r c) (last_of (sessions r) (actor (core_of r.world c))) (link r.world k) (conn r.world k).inbound

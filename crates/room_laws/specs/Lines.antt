@@ -12,11 +12,13 @@ use Rattle.room_model.specs.World.{World, Conn, step, account}
 use Rattle.room_model.specs.Run.{Run, run, line}
 use Rattle.room_laws.specs.Open.{brings_none}
 
--- no state and no update comes down to the client c by the line, it doesn't end a batch of c, and it isn't a drain, which
+-- no state and no update comes down to the client c by the line, it doesn't end a batch of c, and it isn't a drain,
+-- which
 -- is as many lines that bring one frame each
 
 pub record ReceivesQuietly (w : World) (c k : ℕ) : Type 0 where
-  pub quiet : (q : Conn) (m : ServerMsg) (ms : List Outbound) → get w.conns k ≡ Some q → q.owner ≡ Some c → q.outbound ≡ Message m ∷ ms → brings_none m ≡ true
+  pub quiet : (q : Conn) (m : ServerMsg) (ms : List Outbound) → get w.conns k ≡ Some q → q.owner ≡ Some c
+      → q.outbound ≡ Message m ∷ ms → brings_none m ≡ true
 
 -- a call that doesn't end a batch
 abbrev pub EndsNone : lines.Call → Type 0
@@ -53,13 +55,19 @@ abbrev pub AreQuiet : Run → ℕ → List (ℕ × lines.Line) → Type 0
 AreQuiet r c [] = Unit {0}
 AreQuiet r c (l ∷ ls) = IsQuiet r.world c l.1 × AreQuiet (line r l.0 l.1) c ls
 
--- A batch that the client c begins where it shows the tree t, and ends after these lines, and that it undoes after further
+-- A batch that the client c begins where it shows the tree t, and ends after these lines, and that it undoes after
+-- further
 -- ones, is taken back by its reversal on t.
 abbrev pub EachReversed : Type 0
-EachReversed = (r : Run) (c : ℕ) (t : Nodes) (ls ms : List (ℕ × lines.Line)) (i j k : ℕ) (o : OpenBatch) (made back : Batch) →
-    shown (account r.world c) ≡ Some t → (account r.world c).batch ≡ None → AreQuiet (line r i (lines.OfClient c lines.Begin)) c ls →
+EachReversed =
+    (r : Run) (c : ℕ) (t : Nodes) (ls ms : List (ℕ × lines.Line)) (i j k : ℕ) (o : OpenBatch) (made back : Batch) →
+    shown (account r.world c) ≡ Some t → (account r.world c).batch ≡ None
+        → AreQuiet (line r i (lines.OfClient c lines.Begin)) c ls →
     (account (run (line r i (lines.OfClient c lines.Begin)) ls).world c).batch ≡ Some o →
-    (step (run (line r i (lines.OfClient c lines.Begin)) ls).world j (lines.OfClient c lines.End)).issues ≡ (c, made) ∷ [] →
-    undo_entry (account (run (line (run (line r i (lines.OfClient c lines.Begin)) ls) j (lines.OfClient c lines.End)) ms).world c).history ≡ Some o.changes →
-    (step (run (line (run (line r i (lines.OfClient c lines.Begin)) ls) j (lines.OfClient c lines.End)) ms).world k (lines.OfClient c lines.Undo)).issues ≡ (c, back) ∷ [] →
+    (step (run (line r i (lines.OfClient c lines.Begin)) ls).world j (lines.OfClient c lines.End)).issues ≡ (c, made)
+        ∷ [] →
+    undo_entry (account (run (line (run (line r i (lines.OfClient c lines.Begin)) ls) j
+        (lines.OfClient c lines.End)) ms).world c).history ≡ Some o.changes →
+    (step (run (line (run (line r i (lines.OfClient c lines.Begin)) ls) j (lines.OfClient c lines.End)) ms).world k
+        (lines.OfClient c lines.Undo)).issues ≡ (c, back) ∷ [] →
     back.bodies ≡ reverse_all t made.bodies

@@ -28,7 +28,8 @@ pub record Place : Type 0 where
 
 -- a part of a state: the last one brings the updates up to its number
 abbrev pub SaysPart : State → Option Resume → Place → ℕ → ℕ → List Value → Bool → Place → Type 0
-SaysPart s w p seq last items true q = q ≡ record p { parts = p.parts ++ record { seq = seq; last = last; items = items } ∷ [] }
+SaysPart s w p seq last items true q =
+    q ≡ record p { parts = p.parts ++ record { seq = seq; last = last; items = items } ∷ [] }
 SaysPart s w p seq last items false q = record {
   mid : List Update;
   rest : List Update;
@@ -73,7 +74,8 @@ abbrev pub Waits : State → Option Resume → Place → List Outbound → Place
 Waits s w p [] q = p ≡ q
 Waits s w p (m ∷ ms) q = record { next : Place; says : Says s w p m next; more : Waits s w next ms q }
 
--- Each frame of the inbound queue is one that a client sends once it is told its session; each that holds operations is a
+-- Each frame of the inbound queue is one that a client sends once it is told its session; each that holds operations is
+-- a
 -- batch that was issued, and begins by the clock after all before it; e is the clock after all. b is the actor of the
 -- connection, a the one that the client knows.
 

@@ -55,9 +55,11 @@ pub record Goes (s : State) (q : Course) (c : ℕ) (t : Nodes) (made back : Batc
   pub entry : undo_entry (account (until s q c).world c).history ≡ Some batch.changes
   pub undoes : (step (until s q c).world q.back (lines.OfClient c lines.Undo)).issues ≡ (c, back) ∷ []
 
--- both are in the log, as the updates b and u; the tree before b agrees with t on what `made` touches, and the updates vs
+-- both are in the log, as the updates b and u; the tree before b agrees with t on what `made` touches, and the updates
+-- vs
 -- between are apart from it
-pub record Lies (s : State) (r : Run) (c : ℕ) (t : Nodes) (made back : Batch) (us vs ws : List Update) (b u : Update) : Type 0 where
+pub record Lies (s : State) (r : Run) (c : ℕ) (t : Nodes) (made back : Batch) (us vs ws : List Update)
+    (b u : Update) : Type 0 where
   pub log : updates_of r.log ≡ us ++ b ∷ (vs ++ u ∷ ws)
   pub of_back : u.actor ≡ actor (account r.world c)
   pub of_made : b.actor ≡ actor (account r.world c)
@@ -68,6 +70,8 @@ pub record Lies (s : State) (r : Run) (c : ℕ) (t : Nodes) (made back : Batch) 
 
 -- then the tree after u is as if neither had been
 abbrev pub EachUndo : Type 0
-EachUndo = (s : State) (q : Course) (c : ℕ) (t : Nodes) (made back : Batch) (us vs ws : List Update) (b u : Update) → ReadsBack s (updates_of (whole s q c).log) → IsUndisturbed (whole s q c) c
+EachUndo =
+    (s : State) (q : Course) (c : ℕ) (t : Nodes) (made back : Batch) (us vs ws : List Update) (b u : Update)
+    → ReadsBack s (updates_of (whole s q c).log) → IsUndisturbed (whole s q c) c
     → Goes s q c t made back → Lies s (whole s q c) c t made back us vs ws b u → IsInOrder s t made us vs
     → tree_after s.tree (us ++ b ∷ (vs ++ u ∷ [])) ≡ fold (tree_after s.tree us) (bodies_after vs)

@@ -115,4 +115,6 @@ ReadableRun = (s : State) (ls : List (ℕ × Line)) → IsValidState s → AreLi
 
 -- and each client's account is sound
 abbrev pub SoundAccounts : Type 0
-SoundAccounts = (s : State) (ls : List (ℕ × Line)) (c : ℕ) → IsValidState s → AreLines ls → IsSound (account (run (opened s) ls).world c)
+SoundAccounts =
+    (s : State) (ls : List (ℕ × Line)) (c : ℕ) → IsValidState s → AreLines ls
+    → IsSound (account (run (opened s) ls).world c)

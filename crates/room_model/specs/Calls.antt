@@ -1,9 +1,14 @@
 -- The calls of a client's user, and what each does to the account.
 --
--- Each call is an entry of its own. `edit`: there is a tree, then the tests of `make`, then the size of the batch's frame.
--- `batch_begin`, `batch_end`: whether a batch is open. `go_back`, for undo and redo: no batch is open, there is an entry, its
--- clocks are left, then the size of the batch's frame, then that of the presence. `presence`: the depth of its values, then its
--- size. `event`: the connection, the depth, the size. `flushed` and `resent` with the frames that they send.
+-- Each call is an entry of its own, with its tests in this order:
+--   `edit`                      there is a tree; the tests of `make`; the size of the batch's frame
+--   `batch_begin`, `batch_end`  whether a batch is open
+--   `go_back` (undo, redo)      no batch is open; there is an entry; its clocks are left; the size of the batch's
+--   frame,
+--                               then that of the presence
+--   `presence`                  the depth of its values, then its size
+--   `event`                     the connection, the depth, the size
+-- `flushed` and `resent` stand with the frames that they send.
 use Rattle.std.specs.Prelude.{ℕ, ◌+◌, Bool, true, false, ◌&&◌, not, if◌then◌else◌, nat_lt, List, [], ◌∷◌, ◌++◌, map, length, Option, Some, None, Result, Ok, Err}
 use Rattle.room_json.specs.Value.{Value, depth, merged}
 use Rattle.room_json.specs.View.{json_of}
@@ -195,7 +200,8 @@ abbrev pub presence_size : List (List ℕ × Value) → ℕ
 presence_size me = size_of (frame_of_full_to 4294967295 me)
 
 abbrev pub back_presence : Direction → Account → List Change → ℕ → Result (Option Done) UndoFault
-back_presence way x entry size = if nat_lt most_bytes size then Err (UndoTooLarge size) else Ok (Some (went_back way x entry))
+back_presence way x entry size =
+    if nat_lt most_bytes size then Err (UndoTooLarge size) else Ok (Some (went_back way x entry))
 
 abbrev pub back_sized : Direction → Account → List Change → List Body → ℕ → Result (Option Done) UndoFault
 back_sized way x entry bs size =
@@ -204,11 +210,13 @@ back_sized way x entry bs size =
 
 abbrev pub back_clocked : Direction → Account → List Change → List Body → Option ℕ → Result (Option Done) UndoFault
 back_clocked way x entry bs (Some last) = Err (UndoClocksSpent last)
-back_clocked way x entry bs None = back_sized way x entry bs (size_of (frame_of_ops (ops_from (actor x) (last_issued x + 1) bs)))
+back_clocked way x entry bs None =
+    back_sized way x entry bs (size_of (frame_of_ops (ops_from (actor x) (last_issued x + 1) bs)))
 
 abbrev pub back_entry : Direction → Account → Option (List Change) → Result (Option Done) UndoFault
 back_entry way x None = Ok None
-back_entry way x (Some entry) = back_clocked way x entry (entry_bodies entry) (spent (last_issued x + 1) (length (entry_bodies entry)))
+back_entry way x (Some entry) =
+    back_clocked way x entry (entry_bodies entry) (spent (last_issued x + 1) (length (entry_bodies entry)))
 
 abbrev pub back_at : Direction → Account → Option OpenBatch → Result (Option Done) UndoFault
 back_at way x (Some o) = Err UndoInBatch
@@ -238,7 +246,8 @@ pub data SayFault : Type 0 where
 
 abbrev pub open_patched : List Change → List (List ℕ × Value) → Option OpenBatch → Option OpenBatch
 open_patched back patch None = None
-open_patched back patch (Some o) = Some (record { bodies = o.bodies; changes = back ++ o.changes; keys = with_names o.keys patch })
+open_patched back patch (Some o) =
+    Some (record { bodies = o.bodies; changes = back ++ o.changes; keys = with_names o.keys patch })
 
 abbrev pub noted_alone : List Change → History → Option OpenBatch → History
 noted_alone back h None = note back h
@@ -266,7 +275,8 @@ presence x patch in_history =
     else presence_sized x patch in_history (presence_size (merged x.me patch))
 
 abbrev pub event_sized : Account → Json → ℕ → Result Account SayFault
-event_sized x e size = if nat_lt most_bytes size then Err (TooLarge size) else Ok (record x { events = x.events ++ e ∷ [] })
+event_sized x e size =
+    if nat_lt most_bytes size then Err (TooLarge size) else Ok (record x { events = x.events ++ e ∷ [] })
 
 abbrev pub event : Account → Json → Result Account SayFault
 event x e =

@@ -1,9 +1,10 @@
 -- What a client does with a message, and with a frame.
 --
--- The entry is `frame`, what was read of one: its messages are taken one after the other (`receive`), up to the first refusal.
--- The tests of each message in their order: the stage allows it (`Unexpected`); a part of a state belongs to those kept
--- (`Parts`), and with the last one the items are a tree (`NotATree`); an update has the next number (`Gap`); what it says of
--- the account agrees with what is kept (`AccountFault`).
+-- The entry is `frame`, what was read of one: its messages are received one after the other (`receive`), up to the
+-- first
+-- refusal. The tests of each message in their order: the stage allows it (`Unexpected`); a part of a state belongs to
+-- those kept (`Parts`), and with the last one the items are a tree (`NotATree`); an update has the next number (`Gap`);
+-- what it says of the account agrees with what is kept (`AccountFault`).
 use Rattle.std.specs.Prelude.{ℕ, ◌+◌, ◌==◌, ℤ, Bool, true, false, ◌&&◌, ◌||◌, not, if◌then◌else◌, nat_lt, nat_le, List, [], ◌∷◌, ◌++◌, map, Option, Some, None, Result, Ok, Err}
 use Rattle.room_json.specs.Value.{Value}
 use Rattle.room_json.specs.Fields.{first}
@@ -58,7 +59,8 @@ once_on x kind out = if is_on x.stage then Ok out else Err (Unexpected kind)
 
 abbrev pub welcomed : Account → ℕ → ℕ → Received
 welcomed x a key = replying
-    (record x { stage = Connected; session = Some (record { actor = a; key = key }); sent = []; fresh = issued x; unsent = []; others = nobody })
+    (record x { stage = Connected; session = Some (record { actor = a; key = key }); sent = []; fresh = issued x;
+        unsent = []; others = nobody })
     (frame_of_full x.me ∷ frame_of_fetch ∷ [])
 
 abbrev pub welcomed_as : Account → ℕ → ℕ → Option Resume → Result Received FrameFault
@@ -133,7 +135,8 @@ load x seq last None = Err NotATree
 load x seq last (Some t) = load_at x seq last t (state_fault x seq last)
 
 abbrev pub keeps_part : Account → ℕ → ℕ → List Value → Received
-keeps_part x seq last items = received (record x { parts = x.parts ++ record { seq = seq; last = last; items = items } ∷ [] })
+keeps_part x seq last items =
+    received (record x { parts = x.parts ++ record { seq = seq; last = last; items = items } ∷ [] })
 
 abbrev pub receive_part : Account → ℕ → ℕ → List Value → Bool → Option (ℕ × ℕ) → Result Received FrameFault
 receive_part x seq last items more (Some fault) = Err (Parts fault.0 fault.1)
@@ -142,7 +145,9 @@ receive_part x seq last items false None = load x seq last (tree_in (parts_items
 
 abbrev pub receive_state : Account → ℕ → ℕ → List Value → Bool → Result Received FrameFault
 receive_state x seq last items more =
-    if not (is_on x.stage) then Err (Unexpected 200) else receive_part x seq last items more (other_parts x.parts seq last)
+    if not (is_on x.stage)
+    then Err (Unexpected 200)
+    else receive_part x seq last items more (other_parts x.parts seq last)
 
 -- 201, when synced and while no part is kept: its operations go onto the confirmed tree, n rises by one, and `told`
 -- becomes the greatest own clock in it
@@ -178,7 +183,8 @@ update_notices x os told t =
 
 abbrev pub update_told : Account → List Op → Nodes → Result ℕ (ℕ × ℕ) → Result Received FrameFault
 update_told x os t (Err fault) = Err (AccountFault fault.0 fault.1)
-update_told x os t (Ok told) = Ok (record (received (updated_account x os told t)) { notices = update_notices x os told t })
+update_told x os t (Ok told) =
+    Ok (record (received (updated_account x os told t)) { notices = update_notices x os told t })
 
 -- a synced client has a confirmed tree
 abbrev pub update_on : Account → List Op → Option Nodes → Result Received FrameFault
@@ -237,7 +243,8 @@ then_more out (Ok more) = Ok (then_received out more)
 
 abbrev pub receive_all : Account → List ServerMsg → Result Received Refusal
 receive_all x [] = Ok (received x)
-receive_all x (m ∷ ms) = first (or_lost x (receive x m)) (λ (out : Received). then_more out (receive_all out.account ms))
+receive_all x (m ∷ ms) =
+    first (or_lost x (receive x m)) (λ (out : Received). then_more out (receive_all out.account ms))
 
 abbrev pub receive_frame : Account → ServerFrame → Result Received Refusal
 receive_frame x Pong = Ok (received x)

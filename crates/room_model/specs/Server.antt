@@ -1,9 +1,12 @@
 -- A step of the server: what it answers a frame, and what it takes into the log.
 --
--- The entry is `serve`, a frame of a connection. Its tests stand in this order, and the first that fails closes the connection:
+-- The entry is `serve`, a frame of a connection. Its tests stand in this order; the first that fails closes:
 --   `frame_at`       a ping is answered; the text is a frame
---   `messages`       without a session there is just a hello (`hello`), to this room; then its session is there and has that
---                    key, or there are fewer sessions than the limit (`greet`); then its level is to read (`admit`)
+--   `messages`       without a session there is just a hello (`hello`), to this room; then the session that it resumes
+--   is
+--                    there with that key, or there are fewer sessions than the limit (`greet`); then its level is to
+--                    read
+--                    (`admit`)
 --   `session_frame`  no message is a hello
 --   `owned`          no operation is of another actor
 --   `permitted`      no message needs a higher level
@@ -116,7 +119,8 @@ gone v k = gone_at v k (get v.links k)
 
 -- a new connection, with its key
 abbrev pub opened_at : Server → ℕ → ℕ → Option Link → Server
-opened_at v k key None = with_links v (insert v.links k (record { key = key; actor = None; fetched = false; decision = None }))
+opened_at v k key None =
+    with_links v (insert v.links k (record { key = key; actor = None; fetched = false; decision = None }))
 opened_at v k key (Some l) = v
 
 abbrev pub opened : Server → ℕ → ℕ → Server
@@ -159,7 +163,9 @@ users_of ss ls = entries (from_entries {R = nat_cmp} (users_among ss (entries ls
 abbrev pub welcome : Server → ℕ → ℕ → ℕ → List (ℕ × Outbound) → Option Entry → Served
 welcome v k a key before entry = record {
   server = v;
-  outs = before ++ (k, Message (server.RoomState a key (users_of v.state.sessions (remove v.links k)))) ∷ to_others v.links k (server.Joined a);
+  outs =
+      before ++ (k, Message (server.RoomState a key (users_of v.state.sessions (remove v.links k))))
+      ∷ to_others v.links k (server.Joined a);
   entry = entry;
 }
 
@@ -220,7 +226,9 @@ has_key key (Some s) = (s.key == key) && not (key == 0)
 
 abbrev pub greet : Server → ℕ → Link → Hello → Option Resume → Served
 greet v k l h (Some r) =
-    if has_key r.key (session_of v.state.sessions r.actor) then admit v k l h (decision_of v h v.access) else shut v k l 4401 (codes "bad resume")
+    if has_key r.key (session_of v.state.sessions r.actor)
+    then admit v k l h (decision_of v h v.access)
+    else shut v k l 4401 (codes "bad resume")
 greet v k l h None =
     if nat_le v.limits.sessions (length v.state.sessions)
     then shut v k l 4406 (codes "sessions full " ++ decimal (length v.state.sessions))
@@ -276,7 +284,8 @@ commit v u = record {
 
 abbrev pub parts_within : ℕ → List Value → List (List Value × Bool)
 parts_within zero vs = (vs, false) ∷ []
-parts_within (suc n) vs = if nat_le (length vs) 1000 then (vs, false) ∷ [] else (front 1000 vs, true) ∷ parts_within n (drop 1000 vs)
+parts_within (suc n) vs =
+    if nat_le (length vs) 1000 then (vs, false) ∷ [] else (front 1000 vs, true) ∷ parts_within n (drop 1000 vs)
 
 abbrev pub parts_of : List Value → List (List Value × Bool)
 parts_of vs = parts_within (length vs) vs
@@ -297,7 +306,8 @@ fetch v k a = served (fetched_at v k (get v.links k))
 abbrev pub presence_sends : Server → ℕ → ℕ → Option ℤ → List (List ℕ × Value) → List (ℕ × Outbound)
 presence_sends v k a None patch = to_others v.links k (server.Presence a None patch)
 presence_sends v k a (Some (negsuc n)) patch = to_others v.links k (server.Presence a (Some (negsuc n)) patch)
-presence_sends v k a (Some (pos b)) patch = to_each (holds b) (Message (server.Presence a (Some (pos b)) patch)) (entries v.links)
+presence_sends v k a (Some (pos b)) patch =
+    to_each (holds b) (Message (server.Presence a (Some (pos b)) patch)) (entries v.links)
 
 -- the messages of a frame act in order; all its operations make one update, done at the place of the first that holds
 -- operations of any number
@@ -307,7 +317,11 @@ or_entry None e = e
 or_entry (Some d) e = Some d
 
 abbrev pub then_served : Served → Served → Served
-then_served before out = record { server = out.server; outs = before.outs ++ out.outs; entry = or_entry before.entry out.entry }
+then_served before out = record {
+  server = out.server;
+  outs = before.outs ++ out.outs;
+  entry = or_entry before.entry out.entry;
+}
 
 abbrev pub update_acts : Server → Option Update → Served
 update_acts v None = nothing v
@@ -356,7 +370,8 @@ owned v k l a ms (Some got) = shut v k l 4404 (expected_got (codes "foreign acto
 owned v k l a ms None = permitted v k l a ms
 
 abbrev pub session_frame : Server → ℕ → Link → ℕ → List ClientMsg → Served
-session_frame v k l a ms = if has_hello ms then bad_frame v k l reason.Hello else owned v k l a ms (foreign_in a (all_ops_in ms))
+session_frame v k l a ms =
+    if has_hello ms then bad_frame v k l reason.Hello else owned v k l a ms (foreign_in a (all_ops_in ms))
 
 abbrev pub messages : Server → ℕ → Link → List ClientMsg → Option ℕ → Served
 messages v k l ms None = hello v k l (only_hello ms)

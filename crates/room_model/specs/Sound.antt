@@ -73,7 +73,11 @@ pub record HoldsOnly (P : List Change → Type 0) (h : History) : Type 0 where
 -- the clocks of these batches run on by ones after c, and none is empty
 abbrev pub RunsOn : ℕ → List Batch → Type 0
 RunsOn c [] = ⊤
-RunsOn c (b ∷ bs) = record { first : b.first ≡ c + 1; some : 0 < length b.bodies; more : RunsOn (c + length b.bodies) bs }
+RunsOn c (b ∷ bs) = record {
+  first : b.first ≡ c + 1;
+  some : 0 < length b.bodies;
+  more : RunsOn (c + length b.bodies) bs;
+}
 
 -- the clocks of an account run on from the last acknowledged one
 abbrev pub ClocksRunOn : Account → Type 0
@@ -95,7 +99,8 @@ pub record AreOwn (told : ℕ) (bs : List Batch) (o : Option OpenBatch) : Type 0
   pub changes : AreValidChanges (changes_in o)
   pub next : ends told bs + 1 + length (bodies_in o) ≤ most + 1
 
--- before the first state a client has made no operation: nothing is issued, and what goes back are patches of its presence
+-- before the first state a client has made no operation: nothing is issued, and what goes back are patches of its
+-- presence
 
 abbrev pub ArePatches : List Change → Type 0
 ArePatches cs = entry_bodies cs ≡ []

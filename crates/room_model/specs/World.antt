@@ -1,9 +1,12 @@
--- The world: a server, clients, and a inbound and an outbound queue for each connection; and what each line of a schedule does.
+-- The world: a server, clients, an inbound and an outbound queue for each connection; what each line of a schedule
+-- does.
 --
--- The entry is `step`, at the end. A line of a client is a call (`client_calls`), which changes its account and may send
--- frames; a line of a connection (`conn_line`) moves what waits in its queues, by the server (`server_receives`) or by the client or
--- the link (`peer_receives`); a line of the server (`server_line`) stops it, starts it or sets what stops it; `drain` moves what
--- waits until nothing does.
+-- The entry is `step`, at the end. A line of a client is a call (`client_calls`), which changes its account and may
+-- send
+-- frames; a line of a connection (`conn_line`) moves what waits in its queues: the server receives (`server_receives`),
+-- or
+-- the client or the link does (`peer_receives`); a line of the server (`server_line`) stops it, starts it or sets what
+-- stops it; `drain` moves what waits until nothing does.
 use Rattle.std.specs.Prelude.{ℕ, zero, suc, ◌+◌, ◌-◌, Bool, true, false, ◌&&◌, if◌then◌else◌, nat_le, is_some, List, [], ◌∷◌, ◌++◌, map, codes, Option, Some, None, Result, Ok, Err}
 use Rattle.std.specs.Ordering.{nat_cmp}
 use Rattle.std.specs.FinMap.{FinMap, get, insert, entries, from_entries, empty}
@@ -164,7 +167,8 @@ cut_present w None = w
 cut_present w (Some k) = record w { conns = cut_conn w.conns k (get w.conns k) }
 
 abbrev pub cut_slot : World → ℕ → Slot → World
-cut_slot w c p = with_slot (cut_present w p.present) c (record { account = lost p.account; present = None; noticed = p.noticed })
+cut_slot w c p =
+    with_slot (cut_present w p.present) c (record { account = lost p.account; present = None; noticed = p.noticed })
 
 -- connections
 
@@ -188,7 +192,8 @@ abbrev pub dial_slot : World → ℕ → Slot → World
 dial_slot w c p =
     let k = w.opened + 1 in
     let x = dialled p.account in
-    send_inbound (with_slot (open_conn (cut_present w p.present) (Some c)) c (record { account = x; present = Some k; noticed = p.noticed }))
+    send_inbound (with_slot (open_conn (cut_present w p.present) (Some c)) c
+        (record { account = x; present = Some k; noticed = p.noticed }))
     k (inbound_frame (hello_of x) ∷ [])
 
 -- the server's disk calls, and its stops
@@ -198,7 +203,8 @@ emptied_conn e = (e.0, record (e.1) { inbound = []; outbound = [] })
 
 -- queues and attachments are emptied; the disk is settled, which disarms the fuse
 abbrev pub stopped : World → State → World
-stopped w s = record w { host = Stopped s; fuse = None; conns = from_entries {R = nat_cmp} (map emptied_conn (entries w.conns)) }
+stopped w s =
+    record w { host = Stopped s; fuse = None; conns = from_entries {R = nat_cmp} (map emptied_conn (entries w.conns)) }
 
 -- so many calls of the disk with a fuse: it stays, with what is left, or it fires at the call of that number
 pub data Burnt : Type 0 where
@@ -207,7 +213,8 @@ pub data Burnt : Type 0 where
 
 abbrev pub burn : ℕ → Option Fuse → Burnt
 burn calls None = Intact None
-burn calls (Some f) = if nat_le f.left calls then Fires f.left f.how else Intact (Some (record { left = f.left - calls; how = f.how }))
+burn calls (Some f) =
+    if nat_le f.left calls then Fires f.left f.how else Intact (Some (record { left = f.left - calls; how = f.how }))
 
 -- a commit makes four calls, none where nothing is committed
 abbrev pub commit_calls : Option Entry → ℕ
@@ -246,7 +253,8 @@ newly_given None None owner = []
 newly_given (Some b) now owner = []
 
 abbrev pub given_by : World → Server → Served → ℕ → List (ℕ × Option ℕ)
-given_by w v out k = newly_given (actor_on (get v.links k)) (actor_on (get out.server.links k)) (owner_of (get w.conns k))
+given_by w v out k =
+    newly_given (actor_on (get v.links k)) (actor_on (get out.server.links k)) (owner_of (get w.conns k))
 
 -- nothing of the event in which a fuse fires is sent
 abbrev pub answered : World → Server → ℕ → Served → Burnt → Stepped
@@ -259,7 +267,8 @@ answered w v k out (Intact fuse) = record {
 }
 answered w v k out (Fires call how) =
     if is_kept call how
-    then record { world = stopped w (state_with v.state out.entry); lines = []; entries = entries_in out.entry; issues = []; given = [] }
+    then record { world = stopped w (state_with v.state out.entry); lines = []; entries = entries_in out.entry;
+        issues = []; given = [] }
     else quiet (stopped w v.state)
 
 abbrev pub answer : World → Server → ℕ → Served → Stepped
@@ -293,7 +302,8 @@ frame_taken w line c k p (Err out) = saying
     (with_slot (cut_present w p.present) c (record { account = out.account; present = None; noticed = p.noticed }))
     (Lines.refused_line line (Lines.frame_fault_words out.fault) ∷ [])
 frame_taken w line c k p (Ok out) = saying
-    (send_inbound (with_slot w c (record { account = out.account; present = p.present; noticed = out.notices })) k (map inbound_frame out.replies))
+    (send_inbound (with_slot w c (record { account = out.account; present = p.present; noticed = out.notices })) k
+        (map inbound_frame out.replies))
     (Lines.event_lines (Some c) out.events)
 
 abbrev pub client_takes : World → ℕ → ℕ → ℕ → Slot → Outbound → Stepped
@@ -316,7 +326,8 @@ outbound_at w line k (Some q) = outbound_from w line k q q.outbound
 abbrev pub peer_receives : World → ℕ → ℕ → Stepped
 peer_receives w line k = outbound_at w line k (get w.conns k)
 
--- drain: so many times, the server receives from the least connection with something inbound, else the client or the link
+-- drain: so many times, the server receives from the least connection with something inbound, else the client or the
+-- link
 -- receives on the least with something outbound
 
 abbrev pub has_inbound : Conn → Bool
@@ -368,7 +379,9 @@ issued_by c (b ∷ bs) = (c, b) ∷ issued_by c bs
 
 -- a call that answered notices, or none of its own
 abbrev pub done_noticed : World → ℕ → Slot → Done → Stepped
-done_noticed w c p out = record (quiet (with_slot w c (record { account = out.account; present = p.present; noticed = out.notices }))) { issues = issued_by c out.issues }
+done_noticed w c p out =
+    record (quiet (with_slot w c (record { account = out.account; present = p.present;
+    noticed = out.notices }))) { issues = issued_by c out.issues }
 
 abbrev pub done_quiet : World → ℕ → Slot → Done → Stepped
 done_quiet w c p out = record (quiet (with_slot w c (with_account p out.account))) { issues = issued_by c out.issues }
@@ -427,7 +440,8 @@ gone_conn qs k (Some q) = insert qs k (record q { inbound = [] })
 
 abbrev pub gone_on : World → ℕ → Host → Bool → World
 gone_on w k (Running v) true =
-    let out = gone v k in record w { host = Running out.server; conns = deliver (gone_conn w.conns k (get w.conns k)) out.outs }
+    let out = gone v k in record w { host = Running out.server;
+        conns = deliver (gone_conn w.conns k (get w.conns k)) out.outs }
 gone_on w k (Running v) false = w
 gone_on w k (Stopped s) b = w
 
@@ -451,7 +465,8 @@ stop w (Stopped s) = w
 -- a start makes two calls of the disk
 abbrev pub started : World → State → Burnt → Stepped
 started w s (Intact fuse) = saying
-    (record w { host = Running (record { state = s; room = room; limits = w.limits; access = None; links = empty }); fuse = fuse })
+    (record w { host = Running (record { state = s; room = room; limits = w.limits; access = None; links = empty });
+        fuse = fuse })
     (Lines.start_line s ∷ [])
 started w s (Fires call how) = saying (stopped w s) (Lines.start_failed_line ∷ [])
 
