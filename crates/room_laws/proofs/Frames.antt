@@ -12,7 +12,6 @@ use Rattle.room_msg.specs.declared.messages.ClientMsg.TheVariants as client
 use Rattle.room_msg.specs.declared.messages.ClientFrame.TheVariants as frame
 use Rattle.room_log.specs.Log.{Session, session_of, ops_from}
 use Rattle.room_log.specs.Take.{take}
-use Rattle.room_model.specs.Access
 use Rattle.room_model.specs.Access.{barred}
 use Rattle.room_msg.specs.declared.reason.Reason.TheVariants as reason
 use Rattle.room_model.specs.Server

@@ -7,7 +7,6 @@ use Rattle.std.specs.FinMap.{FinMap, get}
 use Rattle.std.specs.Ordering.{nat_cmp}
 use Rattle.room_msg.specs.declared.messages.Resume.{Resume}
 use Rattle.room_msg.specs.declared.messages.ClientMsg.{ClientMsg}
-use Rattle.room_log.specs.Log
 use Rattle.room_log.specs.Log.{State, Update, last_of, updates_of}
 use Rattle.room_model.specs.Notices
 use Rattle.room_model.specs.Run

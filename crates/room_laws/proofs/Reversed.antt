@@ -16,7 +16,6 @@ use Rattle.room_laws.specs.Lines.{EachReversed}
 use Rattle.room_laws.proofs.Calls.{slot_same}
 use Rattle.room_laws.proofs.Open.{keeps_open, issued_bodies}
 use Rattle.room_laws.proofs.Slots.{Keeps, run_on}
-use Rattle.room_laws.proofs.Facts.{none_some}
 
 begins_none : (t : Nodes) (x y : Account) (o : Option OpenBatch) → GoesBack t o → calls.begin_at x o ≡ Ok y → IsOpenOn t y
 begins_none t x y None g p = absurd g

@@ -1,5 +1,5 @@
 -- A frame of one message.
-use Rattle.std.proofs.Common.{◌≡◌, ℕ, List, [], ◌∷◌, ◌++◌, refl, sym, ap, ◌∙◌, append-nil}
+use Rattle.std.proofs.Common.{◌≡◌, ℕ, List, [], ◌∷◌, ◌++◌, refl, ap, ◌∙◌, append-nil}
 use Rattle.std.specs.Prelude.{Result, Ok, Err}
 use Rattle.room_json.specs.Fields.{first}
 use Rattle.room_json.specs.declared.tree.Json.{Json}

@@ -126,8 +126,13 @@ NewIn s us ss (Some w) = New s us ss w
 abbrev pub Linked : Option Resume → Stage → List Outbound → Place → Option Link → Type 0
 Linked w now q end None = Unit {0}
 Linked w now q end (Some l) =
-    record { none : l.actor ≡ None; unfetched : l.fetched ≡ false; empty : q ≡ []; dialled : now ≡ Dialled;
-        whole : end.parts ≡ [] }
+    record {
+      none : l.actor ≡ None;
+      unfetched : l.fetched ≡ false;
+      empty : q ≡ [];
+      dialled : now ≡ Dialled;
+      whole : end.parts ≡ [];
+    }
     ⊎ record {
       resume : Resume;
       some : w ≡ Some resume;
@@ -145,8 +150,11 @@ pub record Present (s : State) (us : List Update) (ss : List Session) (given : L
     (session : Option Resume) (here : Place) (q : List Outbound) (l : Option Link) : Type 0 where
   pub who : Option Resume
   -- the session is the client's, or a new one, unless somebody else took it up
-  pub named : (session ≡ who) ⊎ record { unknown : session ≡ None; new : all_given c (actor_in who) given ≡ true
-      → NewIn s us ss who }
+  pub named : (session ≡ who) ⊎ record {
+    unknown : session ≡ None;
+    new : all_given c (actor_in who) given ≡ true
+        → NewIn s us ss who;
+  }
   pub known : IsOn here.stage → (session ≡ who) × (is_some who ≡ true)
   -- it was begun since the opening
   pub begun : last_of s.sessions (actor_in who) ≡ 0

@@ -62,12 +62,12 @@ abbrev pub EachReversed : Type 0
 EachReversed =
     (r : Run) (c : ℕ) (t : Nodes) (ls ms : List (ℕ × lines.Line)) (i j k : ℕ) (o : OpenBatch) (made back : Batch) →
     shown (account r.world c) ≡ Some t → (account r.world c).batch ≡ None
-        → AreQuiet (line r i (lines.OfClient c lines.Begin)) c ls →
+    → AreQuiet (line r i (lines.OfClient c lines.Begin)) c ls →
     (account (run (line r i (lines.OfClient c lines.Begin)) ls).world c).batch ≡ Some o →
     (step (run (line r i (lines.OfClient c lines.Begin)) ls).world j (lines.OfClient c lines.End)).issues ≡ (c, made)
-        ∷ [] →
+    ∷ [] →
     undo_entry (account (run (line (run (line r i (lines.OfClient c lines.Begin)) ls) j
-        (lines.OfClient c lines.End)) ms).world c).history ≡ Some o.changes →
+    (lines.OfClient c lines.End)) ms).world c).history ≡ Some o.changes →
     (step (run (line (run (line r i (lines.OfClient c lines.Begin)) ls) j (lines.OfClient c lines.End)) ms).world k
-        (lines.OfClient c lines.Undo)).issues ≡ (c, back) ∷ [] →
+    (lines.OfClient c lines.Undo)).issues ≡ (c, back) ∷ [] →
     back.bodies ≡ reverse_all t made.bodies
