@@ -86,7 +86,7 @@ fn views<T: Tree>(
     Ok(shown)
 }
 
-/// The JSON of the root.
+/// The JSON of the root. Fails only where memory runs out.
 #[tactic(auto, unfolding(crate::specs::View::view_at))]
 pub fn view<T: Tree>(alloc: Global, t: &T) -> Result<Json, NoMemory>
     ensures { IfOk result (λ v. json_of v ≡ view_spec (T.nodes t.now)) }
@@ -94,7 +94,7 @@ pub fn view<T: Tree>(alloc: Global, t: &T) -> Result<Json, NoMemory>
     view_node(alloc, t, &NodeId::Root, 60)
 }
 
-/// The JSON of a node, None exactly where it isn't there.
+/// The JSON of a node, None exactly where it isn't there. Fails only where memory runs out.
 #[tactic(auto, unfolding(crate::specs::View::view_at))]
 pub fn view_of<T: Tree>(alloc: Global, t: &T, id: &NodeId) -> Result<Option<Json>, NoMemory>
     ensures { IfOk result (λ v. option_map json_of v ≡ view_of_spec (T.nodes t.now) id.now) }
