@@ -5,6 +5,7 @@ ghost use Rattle.room_items.specs.Items.{row_node, may_put, put_rows};
 ghost use Rattle.room_nodes.specs.Shape.{fits_under};
 ghost use Rattle.room_nodes.specs.Steps.{depth_in};
 
+use crate::order::MAX_NODE_DEPTH;
 use crate::row::Row;
 use room_ids::{NodeId, Pos};
 use room_json::Seq;
@@ -19,7 +20,7 @@ fn fits<T: Tree>(t: &T, row: &Row) -> bool
     let Some(parent) = t.node(&row.parent) else {
         return false;
     };
-    parent.depth < 60
+    parent.depth < MAX_NODE_DEPTH
         && match &parent.kind {
             Kind::Register(_) => false,
             Kind::Object(fields) => fields.find(&row.key).is_none(),
