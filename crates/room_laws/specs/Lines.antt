@@ -55,19 +55,25 @@ abbrev pub AreQuiet : Run → ℕ → List (ℕ × lines.Line) → Type 0
 AreQuiet r c [] = Unit {0}
 AreQuiet r c (l ∷ ls) = IsQuiet r.world c l.1 × AreQuiet (line r l.0 l.1) c ls
 
--- A batch that the client c begins where it shows the tree t, and ends after these lines, and that it undoes after
--- further
--- ones, is taken back by its reversal on t.
+-- the run after the client c begins a batch, after the lines within it, and after its end
+
+abbrev pub begun : Run → ℕ → ℕ → Run
+begun r i c = line r i (lines.OfClient c lines.Begin)
+
+abbrev pub filled : Run → ℕ → ℕ → List (ℕ × lines.Line) → Run
+filled r i c ls = run (begun r i c) ls
+
+abbrev pub ended : Run → ℕ → ℕ → List (ℕ × lines.Line) → ℕ → Run
+ended r i c ls j = line (filled r i c ls) j (lines.OfClient c lines.End)
+
+-- A batch that the client c begins where it shows the tree t, and ends after the lines ls, and that it undoes after
+-- further ones ms, is taken back by its reversal on t.
 abbrev pub EachReversed : Type 0
 EachReversed =
-    (r : Run) (c : ℕ) (t : Nodes) (ls ms : List (ℕ × lines.Line)) (i j k : ℕ) (o : OpenBatch) (made back : Batch) →
-    shown (account r.world c) ≡ Some t → (account r.world c).batch ≡ None
-    → AreQuiet (line r i (lines.OfClient c lines.Begin)) c ls →
-    (account (run (line r i (lines.OfClient c lines.Begin)) ls).world c).batch ≡ Some o →
-    (step (run (line r i (lines.OfClient c lines.Begin)) ls).world j (lines.OfClient c lines.End)).issues ≡ (c, made)
-    ∷ [] →
-    undo_entry (account (run (line (run (line r i (lines.OfClient c lines.Begin)) ls) j
-    (lines.OfClient c lines.End)) ms).world c).history ≡ Some o.changes →
-    (step (run (line (run (line r i (lines.OfClient c lines.Begin)) ls) j (lines.OfClient c lines.End)) ms).world k
-    (lines.OfClient c lines.Undo)).issues ≡ (c, back) ∷ [] →
-    back.bodies ≡ reverse_all t made.bodies
+    (r : Run) (c : ℕ) (t : Nodes) (ls ms : List (ℕ × lines.Line)) (i j k : ℕ) (o : OpenBatch) (made back : Batch)
+    → shown (account r.world c) ≡ Some t → (account r.world c).batch ≡ None → AreQuiet (begun r i c) c ls
+    → (account (filled r i c ls).world c).batch ≡ Some o
+    → (step (filled r i c ls).world j (lines.OfClient c lines.End)).issues ≡ (c, made) ∷ []
+    → undo_entry (account (run (ended r i c ls j) ms).world c).history ≡ Some o.changes
+    → (step (run (ended r i c ls j) ms).world k (lines.OfClient c lines.Undo)).issues ≡ (c, back) ∷ []
+    → back.bodies ≡ reverse_all t made.bodies
