@@ -1,5 +1,5 @@
 -- What is read of written frames.
-use Rattle.std.proofs.Common.{◌≡◌, ◌≤◌, ◌∙◌, sym, subst, ℕ, zero, suc, length, nat_lt, List, [], ◌∷◌, map, codes, Ok, refl, ap, false, rules, arith}
+use Rattle.std.proofs.Common.{◌≡◌, ◌≤◌, ◌∙◌, sym, subst, ℕ, suc, length, nat_lt, List, [], ◌∷◌, map, codes, Ok, refl, ap, false, rules, arith}
 use Rattle.std.specs.Prelude.{All}
 use Rattle.std.specs.Str.{bytes_eq}
 use Rattle.room_json.proofs.TextsAreUtf8.{text_spells}

@@ -1,6 +1,6 @@
 -- A frame is refused as its JSON is.
-use Rattle.std.proofs.Common.{◌≡◌, Result, Ok, Err, refl}
-use Rattle.room_json.specs.Reading.{Refusal, not_json, too_deep, bad_number, IsFaultOf}
+use Rattle.std.proofs.Common.{Result, refl}
+use Rattle.room_json.specs.Reading.{Refusal, IsFaultOf}
 use Rattle.room_json.specs.Value.{Value}
 use Rattle.room_json.specs.declared.reading.JsonFault.{JsonFault}
 use Rattle.room_json.specs.declared.reading.JsonFault.TheVariants.{Memory, NotJson, TooDeep, BadNumber}

@@ -1,5 +1,5 @@
 ghost use Rattle.std.specs.Prelude.{All, IfOk};
-ghost use Rattle.room_msg.specs.Laws.{IsSendable, IsServed};
+ghost use Rattle.room_msg.specs.Laws.{IsSendable};
 
 use super::*;
 use room_json::{Copied, NoMemory, Text};
