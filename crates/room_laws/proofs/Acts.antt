@@ -9,8 +9,8 @@ use Rattle.room_msg.specs.declared.messages.ServerMsg.TheVariants as server
 use Rattle.room_log.specs.Log.{State, last_of}
 use Rattle.room_model.specs.Server.{Server, Down, Message, Link, Up, with_links, part_sends, parts_of}
 use Rattle.room_model.specs.World
-use Rattle.room_model.specs.World.{Conn, Seat, Host, Running, Fuse, state_in, links_of, deliver}
-use Rattle.room_model.specs.Run.{Run, seat, IsUndisturbed}
+use Rattle.room_model.specs.World.{Conn, Seat, Host, Running, Fuse, state_in, links_of, deliver, seat}
+use Rattle.room_model.specs.Run.{Run, IsUndisturbed}
 use Rattle.room_laws.specs.Core.{actor}
 use Rattle.room_laws.specs.Invariant
 use Rattle.room_laws.proofs.Maps.{mine, deliver_there, get_same, get_other, conn_same, conn_other}

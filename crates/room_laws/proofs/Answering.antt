@@ -7,8 +7,8 @@ use Rattle.room_log.specs.Log.{State, last_of, updates_of}
 use Rattle.room_model.specs.Server
 use Rattle.room_model.specs.Server.{Down, Closed, Link, Up, Served}
 use Rattle.room_model.specs.World
-use Rattle.room_model.specs.World.{Conn, Seat, Host, Running, Fuse, state_in, links_of}
-use Rattle.room_model.specs.Run.{Run, seat, with_step}
+use Rattle.room_model.specs.World.{Conn, Seat, Host, Running, Fuse, state_in, links_of, seat}
+use Rattle.room_model.specs.Run.{Run, with_step}
 use Rattle.room_laws.specs.Core.{actor}
 use Rattle.room_laws.specs.Invariant
 use Rattle.room_laws.proofs.Maps.{get_none, emptied_at, hushed, conn_same, conn_other, get_same, get_other, removed_same}

@@ -7,8 +7,8 @@ use Rattle.room_msg.specs.declared.messages.Resume.{Resume}
 use Rattle.room_log.specs.Log.{State, Session, Update, last_of, updates_of}
 use Rattle.room_model.specs.Account.{Batch, actor_in, ends}
 use Rattle.room_model.specs.Server.{Down, Link, Up}
-use Rattle.room_model.specs.World.{World, Seat, links_of, with_seat, issued_by}
-use Rattle.room_model.specs.Run.{Run, seat, seat_in, with_step, all_given, IsUndisturbed}
+use Rattle.room_model.specs.World.{World, Seat, links_of, with_seat, issued_by, seat, seat_in}
+use Rattle.room_model.specs.Run.{Run, with_step, all_given, IsUndisturbed}
 use Rattle.room_laws.specs.Core.{Core, core, issued, actor}
 use Rattle.room_laws.specs.Invariant
 use Rattle.room_laws.proofs.Maps.{get_same, get_other}

@@ -12,8 +12,8 @@ use Rattle.room_log.specs.Log.{State, Update, last_of, last_after, tree_after, u
 use Rattle.room_model.specs.Account.{Part, Synced, actor_in}
 use Rattle.room_model.specs.Comes.{other_parts, parts_items}
 use Rattle.room_model.specs.Server.{Down, Message, Closed, Link, Up, has_session, parts_within}
-use Rattle.room_model.specs.World.{Conn, state_in, with_down, is_close}
-use Rattle.room_model.specs.Run.{Run, seat, all_given, IsUndisturbed}
+use Rattle.room_model.specs.World.{Conn, state_in, with_down, is_close, seat}
+use Rattle.room_model.specs.Run.{Run, all_given, IsUndisturbed}
 use Rattle.room_laws.specs.Core.{actor}
 use Rattle.room_laws.specs.Queues.{Place, IsOn, Says, Waits}
 use Rattle.room_laws.specs.Invariant

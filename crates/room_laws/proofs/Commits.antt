@@ -15,8 +15,8 @@ use Rattle.room_nodes.specs.Steps.{settle_all}
 use Rattle.room_log.specs.Log.{State, Session, Update, Updated, last_after, last_from, last_of, last_in, session_of, with_last, with_last_at, updated, updates_of, ops_of}
 use Rattle.room_model.specs.Account.{Batch, actor_in}
 use Rattle.room_model.specs.Server.{Server, Down, Message, Link, Up, has_fetched, to_each}
-use Rattle.room_model.specs.World.{World, Conn, Host, Running, Fuse, state_in, links_of, deliver, stopped}
-use Rattle.room_model.specs.Run.{Run, seat, seat_in, all_given, IsUndisturbed}
+use Rattle.room_model.specs.World.{World, Conn, Host, Running, Fuse, state_in, links_of, deliver, stopped, seat, seat_in}
+use Rattle.room_model.specs.Run.{Run, all_given, IsUndisturbed}
 use Rattle.room_laws.specs.Ledger.{Silent}
 use Rattle.room_laws.specs.Core.{actor}
 use Rattle.room_laws.specs.Invariant

@@ -7,8 +7,8 @@ use Rattle.room_msg.specs.declared.messages.Resume.{Resume}
 use Rattle.room_log.specs.Log.{State, last_of, updates_of}
 use Rattle.room_model.specs.Account.{Batch, Idle, Synced, actor_in}
 use Rattle.room_model.specs.Server.{Link, Up}
-use Rattle.room_model.specs.World.{Host, Conn, Seat, state_in, links_of}
-use Rattle.room_model.specs.Run.{Run, seat, all_given, IsUndisturbed}
+use Rattle.room_model.specs.World.{Host, Conn, Seat, state_in, links_of, seat}
+use Rattle.room_model.specs.Run.{Run, all_given, IsUndisturbed}
 use Rattle.room_laws.specs.Core.{Core, core, actor}
 use Rattle.room_laws.specs.Invariant
 use Rattle.room_laws.proofs.Maps.{cut}

@@ -7,8 +7,8 @@ use Rattle.room_msg.specs.declared.messages.Resume.{Resume}
 use Rattle.room_log.specs.Log.{State, last_of, updates_of}
 use Rattle.room_model.specs.Account.{Batch, Dialled, Synced, actor_in}
 use Rattle.room_model.specs.Server.{Link, Up, Server, opened_at}
-use Rattle.room_model.specs.World.{room, Host, Running, Stopped, Conn, Seat, state_in, links_of, opened_host}
-use Rattle.room_model.specs.Run.{Run, seat, all_given, IsUndisturbed}
+use Rattle.room_model.specs.World.{room, Host, Running, Stopped, Conn, Seat, state_in, links_of, opened_host, seat}
+use Rattle.room_model.specs.Run.{Run, all_given, IsUndisturbed}
 use Rattle.room_laws.specs.Core.{Core, core, actor}
 use Rattle.room_laws.specs.Queues.{Place}
 use Rattle.room_laws.specs.Invariant

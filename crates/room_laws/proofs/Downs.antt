@@ -14,8 +14,9 @@ use Rattle.room_model.specs.Comes
 use Rattle.room_model.specs.Server.{Down, Up, Pong, Message, Closed}
 use Rattle.room_model.specs.Lines as lines
 use Rattle.room_model.specs.World
+use Rattle.room_model.specs.World.{seat, seat_in, account}
 use Rattle.room_model.specs.Run
-use Rattle.room_model.specs.Run.{Run as ARun, seat, seat_in, account, with_step, all_given, IsUndisturbed}
+use Rattle.room_model.specs.Run.{Run as ARun, with_step, all_given, IsUndisturbed}
 use Rattle.room_laws.specs.Core.{Core, core, actor}
 use Rattle.room_laws.specs.Queues.{Says}
 use Rattle.room_laws.specs.Invariant
@@ -37,7 +38,7 @@ no_cons x xs e = cc
 
 -- the client c takes m, which comes first on its connection k
 module _ (s : State) (r : ARun) (number c k : ℕ) (q : World.Conn) (m : Down) (ms : List Down) (st : Invariant.Inv s r)
-    (is : Invariant.conn r.world k ≡ q) (first : q.down ≡ m ∷ ms) (there : get r.world.clients c ≡ Some (seat r.world c)) (present : (seat r.world c).present ≡ Some k) where
+    (is : Invariant.conn r.world k ≡ q) (first : q.down ≡ m ∷ ms) (present : (seat r.world c).present ≡ Some k) where
   abbrev p : World.Seat
   p = seat r.world c
 
@@ -58,7 +59,7 @@ module _ (s : State) (r : ARun) (number c k : ℕ) (q : World.Conn) (m : Down) (
 
   -- it is lost
   lost : (ls : List (List ℕ)) → Invariant.Inv s (with_step r (World.saying (World.with_seat (World.cut_present w p.present) c (record { account = calls.lost p.account; present = None; noticed = p.noticed })) ls))
-  lost ls = keeps_cut s r _ c _ st (cut_off_at s r c there st popped p.present ls refl
+  lost ls = keeps_cut s r _ c _ st (cut_off_at s r c st popped p.present ls refl
       (λ j f. conn_other r.world.conns k shorter j (not_here j f))
       (λ j e. subst (λ n. cut (Invariant.conn_in (get popped n)) ≡ cut (Invariant.conn r.world n)) (some_is k j (sym present ∙ e)) (ap cut (conn_same r.world.conns k shorter) ∙ ap cut (sym is)))
       popped_there p.noticed)
@@ -118,7 +119,7 @@ module _ (s : State) (r : ARun) (number c k : ℕ) (q : World.Conn) (m : Down) (
   message_taken : (msg : ServerMsg) → m ≡ Message msg → (res : Result Comes.Took Comes.FrameFault) → Comes.comes p.account msg ≡ res
       → Invariant.Inv s (with_step r (World.frame_taken w number c k p (Comes.took_next (Comes.took p.account) res)))
   message_taken msg e (Err fault) i = lost (lines.refused_line number (lines.frame_fault_words fault) ∷ [])
-  message_taken msg e (Ok out) i = keeps_on (record { account = out.account; present = p.present; noticed = out.notices }) (map World.frame_up out.replies) (World.event_lines c out.events) present
+  message_taken msg e (Ok out) i = keeps_on (record { account = out.account; present = p.present; noticed = out.notices }) (map World.frame_up out.replies) (lines.event_lines (Some c) out.events) present
       (comes_stays p.account msg out i)
       (λ u h v.
       let t = takes s (updates_of r.log) (Invariant.sessions r) r.given c k p.account (Invariant.issued_by r c) ms (Invariant.link r.world k) (Invariant.conn r.world k).up msg
@@ -164,20 +165,11 @@ module _ (s : State) (r : ARun) (number k : ℕ) (st : Invariant.Inv s r) where
       by_kind (Message msg) = keeps_saying s (record r { world = World.with_conn r.world k (record q { down = ms }) }) (lines.got_line k (server_text msg) ∷ []) moved
       by_kind (Closed code text) = keeps_saying s (record r { world = World.with_conn r.world k (record q { down = ms }) }) (lines.closed_line k code text ∷ []) moved
 
-  taken_at : (q : World.Conn) (m : Down) (ms : List Down) (c : ℕ) (p : Option World.Seat) → Invariant.conn r.world k ≡ q → q.down ≡ m ∷ ms → q.owner ≡ Some c → get r.world.clients c ≡ p
-      → Invariant.Inv s (with_step r (World.taken_by (World.with_conn r.world k (record q { down = ms })) number c k m p))
-  taken_at q m ms c None e f o g = absurd (none_some k (sym (ap (λ (z : Option World.Seat). (seat_in z).present) g)
-      ∙ st.shape.heard c k (record { owner = ap (λ (x : World.Conn). x.owner) e ∙ o; listens = ap (λ (x : World.Conn). x.listens) e ∙ hears q m ms q.listens e f refl })))
-  taken_at q m ms c (Some p) e f o g =
-      let same : seat r.world c ≡ p = ap seat_in g in
-      subst (λ (z : World.Seat). Invariant.Inv s (with_step r (World.client_takes (World.with_conn r.world k (record q { down = ms })) number c k z m))) same
-      (client_takes s r number c k q m ms st e f (g ∙ ap Some (sym same))
-      (st.shape.heard c k (record { owner = ap (λ (x : World.Conn). x.owner) e ∙ o; listens = ap (λ (x : World.Conn). x.listens) e ∙ hears q m ms q.listens e f refl })))
-
   owner_at : (q : World.Conn) (m : Down) (ms : List Down) (o : Option ℕ) → Invariant.conn r.world k ≡ q → q.down ≡ m ∷ ms → q.owner ≡ o
       → Invariant.Inv s (with_step r (World.owner_takes (World.with_conn r.world k (record q { down = ms })) number k m o))
   owner_at q m ms None e f o = link_at q m ms m refl e f o
-  owner_at q m ms (Some c) e f o = taken_at q m ms c (get r.world.clients c) e f o refl
+  owner_at q m ms (Some c) e f o = client_takes s r number c k q m ms st e f
+      (st.shape.heard c k (record { owner = ap (λ (x : World.Conn). x.owner) e ∙ o; listens = ap (λ (x : World.Conn). x.listens) e ∙ hears q m ms q.listens e f refl }))
 
   down_at : (q : World.Conn) (d : List Down) → Invariant.conn r.world k ≡ q → q.down ≡ d → Invariant.Inv s (with_step r (World.down_from r.world number k q d))
   down_at q [] e f = keeps_saying s r [] st

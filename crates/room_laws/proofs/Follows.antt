@@ -7,7 +7,8 @@ use Rattle.room_nodes.specs.Steps.{fold}
 use Rattle.room_msg.specs.declared.messages.Resume.{Resume}
 use Rattle.room_log.specs.Log.{State, Session, Update, tree_after, tree_at, last_of, last_in, last_after, updates_of}
 use Rattle.room_model.specs.Account.{Batch, actor_in, shown_over, pending_bodies}
-use Rattle.room_model.specs.Run.{Run, account, IsUndisturbed}
+use Rattle.room_model.specs.World.{account}
+use Rattle.room_model.specs.Run.{Run, IsUndisturbed}
 use Rattle.room_laws.specs.Ledger.{Matches}
 use Rattle.room_laws.specs.Core.{Core, issued, actor}
 use Rattle.room_laws.specs.Invariant

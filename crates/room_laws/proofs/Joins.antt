@@ -10,8 +10,8 @@ use Rattle.room_log.specs.Log.{State, Session, Join, Update, joined, last_of, up
 use Rattle.room_model.specs.Server
 use Rattle.room_model.specs.Server.{Down, Message, Closed, Link, Up, Served, has_session}
 use Rattle.room_model.specs.World
-use Rattle.room_model.specs.World.{Conn, Seat, Host, Running, Fuse, state_in, links_of, deliver}
-use Rattle.room_model.specs.Run.{Run, seat, seat_in, IsUndisturbed}
+use Rattle.room_model.specs.World.{Conn, Seat, Host, Running, Fuse, state_in, links_of, deliver, seat, seat_in}
+use Rattle.room_model.specs.Run.{Run, IsUndisturbed}
 use Rattle.room_laws.specs.Core.{actor}
 use Rattle.room_laws.specs.Invariant
 use Rattle.room_laws.proofs.Maps.{mine, passes, to_others_same, to_others_other, deliver_there, get_same, get_other, get_none, emptied_at, hushed}

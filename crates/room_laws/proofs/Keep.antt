@@ -6,8 +6,8 @@ use Rattle.room_msg.specs.declared.messages.Resume.{Resume}
 use Rattle.room_log.specs.Log.{State, Session, Update, last_of, updates_of}
 use Rattle.room_model.specs.Account.{Batch, actor_in}
 use Rattle.room_model.specs.Server.{Down, Link, Up}
-use Rattle.room_model.specs.World.{Conn, Seat, state_in}
-use Rattle.room_model.specs.Run.{Run, seat, account, all_given, IsUndisturbed}
+use Rattle.room_model.specs.World.{Conn, Seat, state_in, seat, account}
+use Rattle.room_model.specs.Run.{Run, all_given, IsUndisturbed}
 use Rattle.room_laws.specs.Core.{Core, core, actor}
 use Rattle.room_laws.specs.Invariant
 use Rattle.room_laws.proofs.Facts.{some_is, none_some}

@@ -9,8 +9,8 @@ use Rattle.room_msg.specs.declared.messages.ServerMsg.TheVariants as server
 use Rattle.room_log.specs.Log.{State, last_of}
 use Rattle.room_model.specs.Server.{Server, Down, Message, Closed, Link, Up, has_session, left_to, with_links, gone_at}
 use Rattle.room_model.specs.World
-use Rattle.room_model.specs.World.{Conn, Seat, Host, Running, Stopped, Fuse, state_in, links_of, deliver, with_down, is_close}
-use Rattle.room_model.specs.Run.{Run, seat, IsUndisturbed, with_step}
+use Rattle.room_model.specs.World.{Conn, Seat, Host, Running, Stopped, Fuse, state_in, links_of, deliver, with_down, is_close, seat}
+use Rattle.room_model.specs.Run.{Run, IsUndisturbed, with_step}
 use Rattle.room_laws.specs.Core.{actor}
 use Rattle.room_laws.specs.Invariant
 use Rattle.room_laws.proofs.Maps.{mine, mine-append, given_all, passes, deliver_at, deliver_there, to_others_same, to_others_other, removed_same, removed_other, left_here, left_else, get_same, get_other}

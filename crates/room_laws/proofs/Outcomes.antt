@@ -10,8 +10,8 @@ use Rattle.room_log.specs.Log.{State, Session, Update, session_of, last_of, upda
 use Rattle.room_model.specs.Server
 use Rattle.room_model.specs.Server.{Link, Up, Served}
 use Rattle.room_model.specs.World
-use Rattle.room_model.specs.World.{Conn, Host, Running, Fuse}
-use Rattle.room_model.specs.Run.{Run, seat, IsUndisturbed}
+use Rattle.room_model.specs.World.{Conn, Host, Running, Fuse, seat}
+use Rattle.room_model.specs.Run.{Run, IsUndisturbed}
 use Rattle.room_laws.specs.Core.{actor}
 use Rattle.room_laws.specs.Invariant
 use Rattle.room_laws.proofs.Maps.{get_same}

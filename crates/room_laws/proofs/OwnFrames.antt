@@ -14,8 +14,8 @@ use Rattle.room_msg.specs.declared.messages.Resume.{Resume}
 use Rattle.room_model.specs.Account.{actor_in}
 use Rattle.room_model.specs.Server
 use Rattle.room_model.specs.Server.{Link, Up, Served}
-use Rattle.room_model.specs.World.{Conn, Running, state_in}
-use Rattle.room_model.specs.Run.{Run, seat, IsUndisturbed}
+use Rattle.room_model.specs.World.{Conn, Running, state_in, seat}
+use Rattle.room_model.specs.Run.{Run, IsUndisturbed}
 use Rattle.room_laws.specs.Core.{Core, actor}
 use Rattle.room_laws.specs.Queues.{InOrder}
 use Rattle.room_laws.specs.Invariant

@@ -15,7 +15,8 @@ use Rattle.room_model.specs.Account.{Account, Batch, Stage, Idle, Dialled, Conne
 use Rattle.room_model.specs.Calls as calls
 use Rattle.room_model.specs.Server.{Up}
 use Rattle.room_model.specs.World
-use Rattle.room_model.specs.Run.{Run, seat, seat_in, account, with_step, all_given, IsUndisturbed}
+use Rattle.room_model.specs.World.{seat, seat_in, account}
+use Rattle.room_model.specs.Run.{Run, with_step, all_given, IsUndisturbed}
 use Rattle.room_laws.specs.Core.{Core, core, actor, issued}
 use Rattle.room_laws.specs.Queues.{IsOn}
 use Rattle.room_laws.specs.Invariant
@@ -33,48 +34,22 @@ use Rattle.room_laws.proofs.Facts.{some_is, none_some}
 pub keeps_saying : (s : State) (r : Run) (ls : List (List ℕ)) → Invariant.Inv s r → Invariant.Inv s (with_step r (World.saying r.world ls))
 keeps_saying s r ls h = rw (append-nil r.log, append-nil r.issued, append-nil r.given) h
 
-pub unstep : (s : State) (r : Run) (w : World.World) (log : List Log.Entry) (issued : List (ℕ × Batch)) (given : List (ℕ × Option ℕ)) → log ≡ r.log → issued ≡ r.issued → given ≡ r.given
-    → Invariant.Inv s (record { world = w; log = log; issued = issued; given = given }) → Invariant.Inv s (record r { world = w })
-unstep s r w log issued given e f g h = rw (← e, ← f, ← g) h
-
--- a client is there from its first line on
-pub keeps_seated : (s : State) (r : Run) (c : ℕ) (o : Option World.Seat) → get r.world.clients c ≡ o → Invariant.Inv s r → Invariant.Inv s (record r { world = World.seated_at r.world c o })
-keeps_seated s r c (Some p) e h = h
-keeps_seated s r c None e h =
-    let same : seat r.world c ≡ World.new_seat = ap seat_in e in
-    unstep s r (World.with_seat r.world c World.new_seat) (r.log ++ []) (r.issued ++ []) (r.given ++ []) (append-nil r.log) (append-nil r.issued) (append-nil r.given)
-    (keeps_call s r c World.new_seat [] [] h (ap (λ (z : World.Seat). z.present) (sym same)) (ap (λ (z : World.Seat). (z.account).session) (sym same))
-    (λ u. inl (ap (λ (z : World.Seat). core z.account) (sym same), refl)))
-
-pub seated_there : (w : World.World) (c : ℕ) (o : Option World.Seat) → get w.clients c ≡ o → get (World.seated_at w c o).clients c ≡ Some (seat_in o)
-seated_there w c (Some p) e = e
-seated_there w c None e = get_same w.clients c World.new_seat
-
 -- frames go up on the present connection: y is the account afterwards
-module _ (s : State) (r : Run) (c : ℕ) (p : World.Seat) (there : get r.world.clients c ≡ Some p) (st : Invariant.Inv s r) where
-  is_seat : seat r.world c ≡ p
-  is_seat = ap seat_in there
+module _ (s : State) (r : Run) (c : ℕ) (st : Invariant.Inv s r) where
+  abbrev p : World.Seat
+  p = seat r.world c
 
   abbrev x : Core
   x = Invariant.core_of r.world c
 
-  is_core : core p.account ≡ x
-  is_core = ap (λ (z : World.Seat). core z.account) (sym is_seat)
-
-  account_seat : (y : Account) (n : Option ℕ) → p.present ≡ n → (World.with_account p y).present ≡ (seat r.world c).present
-  account_seat y n e = ap (λ (z : World.Seat). z.present) (sym is_seat)
-
   -- a call that answers an account
   pub keeps_account : (y : Account) → Called (core p.account) (core y) [] → Invariant.Inv s (with_step r (World.quiet (World.with_seat r.world c (World.with_account p y))))
-  keeps_account y called = keeps_call s r c (World.with_account p y) [] [] st (account_seat y p.present refl)
-      (called_session (core p.account) (core y) [] called ∙ ap (λ (z : Core). z.session) is_core)
-      (λ u. subst (λ (z : Core). Called z (core y) []) is_core called)
+  keeps_account y called = keeps_call s r c (World.with_account p y) [] [] st refl (called_session (core p.account) (core y) [] called) (λ u. called)
 
   pub keeps_done : (d : calls.Done) (n : List Notices.Notice) → Called (core p.account) (core (d.account)) (d.issues)
       → Invariant.Inv s (with_step r (record (World.quiet (World.with_seat r.world c (record { account = d.account; present = p.present; noticed = n }))) { issues = World.issued_by c d.issues }))
-  keeps_done d n called = keeps_call s r c (record { account = d.account; present = p.present; noticed = n }) [] d.issues st (ap (λ (z : World.Seat). z.present) (sym is_seat))
-      (called_session (core p.account) (core d.account) d.issues called ∙ ap (λ (z : Core). z.session) is_core)
-      (λ u. subst (λ (z : Core). Called z (core d.account) d.issues) is_core called)
+  keeps_done d n called = keeps_call s r c (record { account = d.account; present = p.present; noticed = n }) [] d.issues st refl
+      (called_session (core p.account) (core d.account) d.issues called) (λ u. called)
 
   -- speaking
   turn_at : (k : ℕ) (y : Account) (fs : List (List ClientMsg)) → p.present ≡ Some k
@@ -85,7 +60,7 @@ module _ (s : State) (r : Run) (c : ℕ) (p : World.Seat) (there : get r.world.c
       record {
         host = v.host;
         opened = v.opened;
-        before = ap (λ (z : World.Seat). z.present) is_seat ∙ e;
+        before = e;
         after = e;
         seat_is = ap (λ (m : FinMap nat_cmp World.Seat). seat_in (get m c)) v.clients ∙ seat_same r.world c (World.with_account p y);
         seats = λ d i. ap (λ (m : FinMap nat_cmp World.Seat). seat_in (get m d)) v.clients ∙ seat_other r.world c d (World.with_account p y) i;
@@ -108,17 +83,16 @@ module _ (s : State) (r : Run) (c : ℕ) (p : World.Seat) (there : get r.world.c
       → Turned s (updates_of r.log) (Invariant.sessions r) r.given c k x (core y) (Invariant.issued_by r c) (Invariant.conn r.world k).down (Invariant.link r.world k)
       (cond (is_some (Invariant.link r.world k)) ((Invariant.conn r.world k).up ++ map World.frame_up fs) (Invariant.conn r.world k).up))
       → Invariant.Inv s (spoken o y fs)
-  keeps_spoken None y fs e named idle on = keeps_call s r c (World.with_account p y) [] [] st (ap (λ (z : World.Seat). z.present) (sym is_seat))
-      (named ∙ ap (λ (z : Core). z.session) is_core)
+  keeps_spoken None y fs e named idle on = keeps_call s r c (World.with_account p y) [] [] st refl named
       (λ u. inl (idle u (off_line u), refl))
     where
       off_line : IsUndisturbed r c → x.stage ≡ Idle
       off_line u = (subst (λ (q : Option ℕ). Invariant.Seated s (updates_of r.log) (Invariant.sessions r) r.given c q x.session (Invariant.place x (st.client c u).done (st.client c u).coming)
-          (Invariant.present_down r.world q) (Invariant.present_link r.world q)) (ap (λ (z : World.Seat). z.present) is_seat ∙ e) (st.client c u).seated).idle
+          (Invariant.present_down r.world q) (Invariant.present_link r.world q)) e (st.client c u).seated).idle
   keeps_spoken (Some k) y fs e named idle on = turns s r (spoken (Some k) y fs) c k (World.with_account p y) (Invariant.conn r.world k).down (map World.frame_up fs) st (turn_at k y fs e)
       (λ u.
-      let before : IsUndisturbed r c = subst (λ (w : Option Resume). all_given c (actor_in w) r.given ≡ true) (named ∙ ap (λ (z : Core). z.session) is_core) u in
-      let here : (seat r.world c).present ≡ Some k = ap (λ (z : World.Seat). z.present) is_seat ∙ e in (
+      let before : IsUndisturbed r c = subst (λ (w : Option Resume). all_given c (actor_in w) r.given ≡ true) named u in
+      let here : (seat r.world c).present ≡ Some k = e in (
         before,
         on k before
             (subst (λ (q : Option ℕ). Invariant.Client s (updates_of r.log) (Invariant.sessions r) r.given c q x (Invariant.issued_by r c) (Invariant.present_down r.world q) (Invariant.present_link r.world q)) here (st.client c before))
@@ -150,7 +124,7 @@ idle_to Synced x f = absurd (no f)
     no : Synced ≡ Idle → ⊥
     no i = cc
 
-module _ (s : State) (r : Run) (c : ℕ) (there : get r.world.clients c ≡ Some (seat r.world c)) (st : Invariant.Inv s r) where
+module _ (s : State) (r : Run) (c : ℕ) (st : Invariant.Inv s r) where
   abbrev a : Account
   a = account r.world c
 
@@ -186,13 +160,13 @@ module _ (s : State) (r : Run) (c : ℕ) (there : get r.world.clients c ≡ Some
       (send_issued s (updates_of r.log) (last_of (Invariant.sessions r) (actor (core a))) (core a) (Invariant.issued_by r c) h.done h.coming h.own)
 
   pub keeps_flush : Invariant.Inv s (with_step r (World.speaks r.world c (seat r.world c) (calls.flushed a) (calls.flush_frames a)))
-  keeps_flush = keeps_spoken s r c (seat r.world c) there st (seat r.world c).present (calls.flushed a) (calls.flush_frames a) refl
+  keeps_flush = keeps_spoken s r c st (seat r.world c).present (calls.flushed a) (calls.flush_frames a) refl
       (ap (λ (z : Core). z.session) (flush_core a a.stage refl) ∙ flush_session a.stage (core a))
       (λ u e. flush_core a a.stage refl ∙ idle_to a.stage (core a) e)
       (λ k u h v. rw (flush_core a a.stage refl, flush_said a a.stage refl) (flush_turned k a.stage refl h v))
 
   pub keeps_resend : Invariant.Inv s (with_step r (World.speaks r.world c (seat r.world c) (calls.resent a) (calls.resend_frames a)))
-  keeps_resend = keeps_spoken s r c (seat r.world c) there st (seat r.world c).present (calls.resent a) (calls.resend_frames a) refl
+  keeps_resend = keeps_spoken s r c st (seat r.world c).present (calls.resent a) (calls.resend_frames a) refl
       (ap (λ (z : Core). z.session) (resent_core a a.stage refl) ∙ flush_session a.stage (core a))
       (λ u e. resent_core a a.stage refl ∙ idle_to a.stage (core a) e)
       (λ k u h v. rw (resent_core a a.stage refl, resend_said a a.stage refl) (resend_turned k a.stage refl h v))

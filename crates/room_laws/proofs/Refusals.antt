@@ -6,7 +6,8 @@ use Rattle.room_msg.specs.declared.messages.ServerFrame.TheVariants.{Msgs}
 use Rattle.room_log.specs.Log.{State, last_of, updates_of}
 use Rattle.room_model.specs.Comes
 use Rattle.room_model.specs.Server.{Down, Message}
-use Rattle.room_model.specs.Run.{Run, seat, account, run, opened, IsUndisturbed}
+use Rattle.room_model.specs.World.{seat, account}
+use Rattle.room_model.specs.Run.{Run, run, opened, IsUndisturbed}
 use Rattle.room_laws.specs.Laws.{EachTaken}
 use Rattle.room_laws.specs.Core.{core, actor}
 use Rattle.room_laws.specs.Invariant

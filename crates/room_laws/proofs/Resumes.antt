@@ -11,8 +11,8 @@ use Rattle.room_msg.specs.declared.messages.ServerMsg.TheVariants as server
 use Rattle.room_log.specs.Log.{State, Session, session_of, last_of, updates_of}
 use Rattle.room_model.specs.Server
 use Rattle.room_model.specs.Server.{Down, Message, Closed, Link, Up, Served, has_session, holds, is_actor, not_held_by, without_actor}
-use Rattle.room_model.specs.World.{Conn, Host, Running, Fuse, state_in, links_of, deliver}
-use Rattle.room_model.specs.Run.{Run, seat, IsUndisturbed}
+use Rattle.room_model.specs.World.{Conn, Host, Running, Fuse, state_in, links_of, deliver, seat}
+use Rattle.room_model.specs.Run.{Run, IsUndisturbed}
 use Rattle.room_laws.specs.Invariant
 use Rattle.room_laws.proofs.Maps.{mine, mine-append, passes, to_each_of, to_others_same, to_others_other, deliver_there, get_same, get_other}
 use Rattle.room_laws.proofs.Sessions.{begun_since}

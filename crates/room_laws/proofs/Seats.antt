@@ -17,10 +17,10 @@ use Rattle.room_model.specs.Server
 use Rattle.room_model.specs.Server.{Down, Pong, Message, Closed, Up, Served}
 use Rattle.room_model.specs.Lines as lines
 use Rattle.room_model.specs.World
-use Rattle.room_model.specs.World.{World, Conn, Seat, Host, Running, Stopped}
-use Rattle.room_model.specs.Run.{Run, seat_in, account, line, run}
+use Rattle.room_model.specs.World.{World, Conn, Seat, Host, Running, Stopped, seat_in, account}
+use Rattle.room_model.specs.Run.{Run, line, run}
 use Rattle.room_laws.specs.Open.{brings_none}
-use Rattle.room_laws.specs.Lines.{ComesQuietly, IsQuiet, AreQuiet}
+use Rattle.room_laws.specs.Lines.{ComesQuietly, EndsNone, IsQuietOn, IsQuiet, AreQuiet}
 use Rattle.room_laws.proofs.Calls.{seat_same, seat_other}
 
 pub record Keeps (P : Account → Type 0) : Type 0 where
@@ -155,37 +155,21 @@ module _ (P : Account → Type 0) (keep : Keeps P) (c : ℕ) where
         same (World.dial_seat w d p) u (send_clients u (w.opened + 1) _ (World.is_attached u (w.opened + 1)) (get u.conns (w.opened + 1)))
         (seats v d q (same v w (cut_clients w p.present) h) (λ j. keep.dialled p.account (hp j)))
 
-    line_on : (l : lines.Line) → ((e : ℕ) → l ≡ lines.End e → d ≡ c → ⊥) → On (World.client_line w number d p l).world
-    line_on (lines.Dial e) g = dials
-    line_on (lines.Edits e f) g = edits f (calls.edit p.account f) refl
-    line_on (lines.Begin e) g = begins (calls.batch_begin p.account) refl
-    line_on (lines.End e) g = ends (calls.batch_end p.account) (g e refl)
-    line_on (lines.Undo e) g = backs calls.Undo (calls.go_back calls.Undo p.account) refl
-    line_on (lines.Redo e) g = backs calls.Redo (calls.go_back calls.Redo p.account) refl
-    line_on (lines.Pause e) g = put (calls.pause p.account) p.present p.noticed (λ j. keep.paused p.account (hp j))
-    line_on (lines.Resume e) g = put (calls.resume p.account) p.present p.noticed (λ j. keep.resumed p.account (hp j))
-    line_on (lines.Clear e) g = put (calls.clear p.account) p.present p.noticed (λ j. keep.cleared p.account (hp j))
-    line_on (lines.Presence e patch in_history) g = says (calls.presence p.account patch in_history) (λ y i j. keep.presence p.account y patch in_history (hp j) i)
-    line_on (lines.Event e f) g = says (calls.event p.account f) (λ y i j. keep.event p.account y f (hp j) i)
-    line_on (lines.Flush e) g = speaks (calls.flushed p.account) (calls.flush_frames p.account) (λ j. keep.flushed p.account (hp j))
-    line_on (lines.Resend e) g = speaks (calls.resent p.account) (calls.resend_frames p.account) (λ j. keep.resent p.account (hp j))
-    line_on (lines.Cut e) g = cuts (calls.lost p.account) (λ j. keep.lost p.account (hp j))
-    line_on (lines.Goes_up k) g = h
-    line_on (lines.Comes_down k) g = h
-    line_on (lines.Drain n) g = h
-    line_on (lines.Gone k) g = h
-    line_on lines.Stop g = h
-    line_on lines.Start g = h
-    line_on (lines.Fuse n how) g = h
-    line_on lines.Compact g = h
-    line_on (lines.Limit updates sessions) g = h
-    line_on lines.Link g = h
-    line_on (lines.Raw k text) g = h
-    line_on (lines.Show spot) g = h
-    line_on (lines.Brief spot) g = h
-    line_on (lines.Others e) g = h
-    line_on (lines.HistoryOf e) g = h
-    line_on (lines.NoticesOf e) g = h
+    call_on : (call : lines.Call) → (d ≡ c → EndsNone call) → On (World.client_calls w number d p call).world
+    call_on lines.Dial g = dials
+    call_on (lines.Edits f) g = edits f (calls.edit p.account f) refl
+    call_on lines.Begin g = begins (calls.batch_begin p.account) refl
+    call_on lines.End g = ends (calls.batch_end p.account) g
+    call_on lines.Undo g = backs calls.Undo (calls.go_back calls.Undo p.account) refl
+    call_on lines.Redo g = backs calls.Redo (calls.go_back calls.Redo p.account) refl
+    call_on lines.Pause g = put (calls.pause p.account) p.present p.noticed (λ j. keep.paused p.account (hp j))
+    call_on lines.Resume g = put (calls.resume p.account) p.present p.noticed (λ j. keep.resumed p.account (hp j))
+    call_on lines.Clear g = put (calls.clear p.account) p.present p.noticed (λ j. keep.cleared p.account (hp j))
+    call_on (lines.Presence patch in_history) g = says (calls.presence p.account patch in_history) (λ y i j. keep.presence p.account y patch in_history (hp j) i)
+    call_on (lines.Event f) g = says (calls.event p.account f) (λ y i j. keep.event p.account y f (hp j) i)
+    call_on lines.Flush g = speaks (calls.flushed p.account) (calls.flush_frames p.account) (λ j. keep.flushed p.account (hp j))
+    call_on lines.Resend g = speaks (calls.resent p.account) (calls.resend_frames p.account) (λ j. keep.resent p.account (hp j))
+    call_on lines.Cut g = cuts (calls.lost p.account) (λ j. keep.lost p.account (hp j))
 
     -- what comes down
     frame_on : (k : ℕ) (r : Result Comes.Took Comes.Refusal) → ((out : Comes.Took) → r ≡ Ok out → d ≡ c → P out.account) → ((out : Comes.Refusal) → r ≡ Err out → d ≡ c → P out.account) → On (World.frame_taken w number d k p r).world
@@ -212,19 +196,8 @@ module _ (P : Account → Type 0) (keep : Keeps P) (c : ℕ) where
     takes_on k (Message n) b = next_on k n (Comes.comes p.account n) (b n refl) refl
     takes_on k (Closed code text) b = cuts (calls.lost p.account) (λ j. keep.lost p.account (hp j))
 
-  seat_got : (w : World) (d : ℕ) (o : Option Seat) → get w.clients d ≡ o → On w → d ≡ c → P (seat_in o).account
-  seat_got w d o e h j = subst (λ z. P (seat_in z).account) e (subst (λ n. P (seat_in (get w.clients n)).account) (sym j) h)
-
-  seated_on : (w : World) (d : ℕ) (o : Option Seat) → get w.clients d ≡ o → On w → On (World.seated_at w d o)
-  seated_on w d (Some p) e h = h
-  seated_on w d None e h = seats w d World.new_seat h (λ j. seat_got w d None e h j)
-
-  client_on : (u : World) (number d : ℕ) (l : lines.Line) (o : Option Seat) → get u.clients d ≡ o → On u → ((e : ℕ) → l ≡ lines.End e → d ≡ c → ⊥) → On (World.client_at u number d l o).world
-  client_on u number d l None e h g = h
-  client_on u number d l (Some p) e h g = line_on u number d p h (λ j. seat_got u d (Some p) e h j) l g
-
-  of_client_on : (w : World) (number d : ℕ) (l : lines.Line) → On w → ((e : ℕ) → l ≡ lines.End e → d ≡ c → ⊥) → On (World.of_client w number d l).world
-  of_client_on w number d l h g = client_on (World.seated w d) number d l (get (World.seated w d).clients d) refl (seated_on w d (get w.clients d) refl h) g
+  seat_is : (w : World) (d : ℕ) → On w → d ≡ c → P (account w d)
+  seat_is w d h j = subst (λ n. P (account w n)) (sym j) h
 
   -- what comes down
 
@@ -233,13 +206,9 @@ module _ (P : Account → Type 0) (keep : Keeps P) (c : ℕ) where
   link_on w k (Message m) h = h
   link_on w k (Closed code text) h = h
 
-  taken_on : (w : World) (number d k : ℕ) (m : Down) (o : Option Seat) → get w.clients d ≡ o → On w → ((n : ServerMsg) → m ≡ Message n → d ≡ c → brings_none n ≡ true) → On (World.taken_by w number d k m o).world
-  taken_on w number d k m None e h b = h
-  taken_on w number d k m (Some p) e h b = takes_on w number d p h (λ j. seat_got w d (Some p) e h j) k m b
-
   owner_on : (w : World) (number k : ℕ) (m : Down) (o : Option ℕ) → On w → ((n : ServerMsg) → m ≡ Message n → o ≡ Some c → brings_none n ≡ true) → On (World.owner_takes w number k m o).world
   owner_on w number k m None h b = link_on w k m h
-  owner_on w number k m (Some d) h b = taken_on w number d k m (get w.clients d) refl h (λ n i j. b n i (ap Some j))
+  owner_on w number k m (Some d) h b = takes_on w number d (seat w d) h (seat_is w d h) k m (λ n i j. b n i (ap Some j))
 
   from_on : (w : World) (number k : ℕ) (q : Conn) (ds : List Down) → q.down ≡ ds → get w.conns k ≡ Some q → On w → ComesQuietly w c k → On (World.down_from w number k q ds).world
   from_on w number k q [] i e h b = h
@@ -251,42 +220,28 @@ module _ (P : Account → Type 0) (keep : Keeps P) (c : ℕ) where
 
   -- any line
 
-  not_end : (l : lines.Line) → ((e : ℕ) → l ≡ lines.End e → ⊥) → (d e : ℕ) → l ≡ lines.End e → d ≡ c → ⊥
-  not_end l f d e i j = f e i
+  conn_on : (w : World) (number k : ℕ) (traffic : lines.Traffic) → On w → IsQuietOn w c k traffic → On (World.conn_line w number k traffic).world
+  conn_on w number k lines.GoesUp h q = same (World.goes_up w k).world w (goes_up_clients w k (get w.conns k)) h
+  conn_on w number k lines.ComesDown h q = down_on w number k (get w.conns k) refl h q
+  conn_on w number k lines.Gone h q = same (World.goes w k) w (gone_clients w k w.host (World.is_attached w k)) h
+  conn_on w number k (lines.Raw text) h q = same (World.raw_at w k text (get w.conns k)) w (raw_clients w k text (get w.conns k)) h
+
+  server_on : (w : World) (service : lines.Service) → On w → On (World.server_line w service).world
+  server_on w lines.Stop h = same (World.stop w w.host) w (stop_clients w w.host) h
+  server_on w lines.Start h = same (World.start w w.host).world w (start_clients w w.host) h
+  server_on w (lines.Fuse n how) h = h
+  server_on w lines.Compact h = same (World.compact w w.host) w (compact_clients w w.host) h
+  server_on w (lines.Limit updates sessions) h = h
+  server_on w lines.ShowServer h = h
+  server_on w lines.BriefServer h = h
 
   pub step_on : (w : World) (number : ℕ) (l : lines.Line) → On w → IsQuiet w c l → On (World.step w number l).world
-  step_on w number (lines.Dial d) h q = of_client_on w number d (lines.Dial d) h (λ e i j. cc)
-  step_on w number (lines.Edits d f) h q = of_client_on w number d (lines.Edits d f) h (λ e i j. cc)
-  step_on w number (lines.Begin d) h q = of_client_on w number d (lines.Begin d) h (λ e i j. cc)
-  step_on w number (lines.End d) h q = of_client_on w number d (lines.End d) h (λ e i j. q j)
-  step_on w number (lines.Undo d) h q = of_client_on w number d (lines.Undo d) h (λ e i j. cc)
-  step_on w number (lines.Redo d) h q = of_client_on w number d (lines.Redo d) h (λ e i j. cc)
-  step_on w number (lines.Pause d) h q = of_client_on w number d (lines.Pause d) h (λ e i j. cc)
-  step_on w number (lines.Resume d) h q = of_client_on w number d (lines.Resume d) h (λ e i j. cc)
-  step_on w number (lines.Clear d) h q = of_client_on w number d (lines.Clear d) h (λ e i j. cc)
-  step_on w number (lines.Presence d patch in_history) h q = of_client_on w number d (lines.Presence d patch in_history) h (λ e i j. cc)
-  step_on w number (lines.Event d f) h q = of_client_on w number d (lines.Event d f) h (λ e i j. cc)
-  step_on w number (lines.Flush d) h q = of_client_on w number d (lines.Flush d) h (λ e i j. cc)
-  step_on w number (lines.Resend d) h q = of_client_on w number d (lines.Resend d) h (λ e i j. cc)
-  step_on w number (lines.Cut d) h q = of_client_on w number d (lines.Cut d) h (λ e i j. cc)
-  step_on w number (lines.Show (lines.AClient d)) h q = of_client_on w number d (lines.Show (lines.AClient d)) h (λ e i j. cc)
-  step_on w number (lines.Show lines.TheServer) h q = h
-  step_on w number (lines.Brief (lines.AClient d)) h q = of_client_on w number d (lines.Brief (lines.AClient d)) h (λ e i j. cc)
-  step_on w number (lines.Brief lines.TheServer) h q = h
-  step_on w number (lines.Others d) h q = of_client_on w number d (lines.Others d) h (λ e i j. cc)
-  step_on w number (lines.HistoryOf d) h q = of_client_on w number d (lines.HistoryOf d) h (λ e i j. cc)
-  step_on w number (lines.NoticesOf d) h q = of_client_on w number d (lines.NoticesOf d) h (λ e i j. cc)
-  step_on w number (lines.Goes_up k) h q = same (World.goes_up w k).world w (goes_up_clients w k (get w.conns k)) h
-  step_on w number (lines.Comes_down k) h q = down_on w number k (get w.conns k) refl h q
+  step_on w number (lines.OfClient d call) h q = call_on w number d (seat w d) h (seat_is w d h) call q
+  step_on w number (lines.AsksClient d question) h q = h
+  step_on w number (lines.OfConnection k traffic) h q = conn_on w number k traffic h q
+  step_on w number (lines.OfServer service) h q = server_on w service h
   step_on w number (lines.Drain n) h q = absurd q
-  step_on w number (lines.Gone k) h q = same (World.goes w k) w (gone_clients w k w.host (World.is_attached w k)) h
-  step_on w number lines.Stop h q = same (World.stop w w.host) w (stop_clients w w.host) h
-  step_on w number lines.Start h q = same (World.start w w.host).world w (start_clients w w.host) h
-  step_on w number (lines.Fuse n how) h q = h
-  step_on w number lines.Compact h q = same (World.compact w w.host) w (compact_clients w w.host) h
-  step_on w number (lines.Limit updates sessions) h q = h
   step_on w number lines.Link h q = h
-  step_on w number (lines.Raw k text) h q = same (World.raw_at w k text (get w.conns k)) w (raw_clients w k text (get w.conns k)) h
 
   pub run_on : (r : Run) (ls : List (ℕ × lines.Line)) → On r.world → AreQuiet r c ls → On (run r ls).world
   run_on r [] h q = h

@@ -6,8 +6,8 @@ use Rattle.std.specs.FinMap.{get}
 use Rattle.room_log.specs.Log.{State, Session, Update, last_of, updates_of}
 use Rattle.room_model.specs.Account.{Batch}
 use Rattle.room_model.specs.Server.{Down, Link, Up}
-use Rattle.room_model.specs.World.{World, Host, Conn, Seat, state_in, links_of, is_attached, ups_on, send_up}
-use Rattle.room_model.specs.Run.{Run, seat, IsUndisturbed}
+use Rattle.room_model.specs.World.{World, Host, Conn, Seat, state_in, links_of, is_attached, ups_on, send_up, seat}
+use Rattle.room_model.specs.Run.{Run, IsUndisturbed}
 use Rattle.room_laws.specs.Core.{Core, core, actor}
 use Rattle.room_laws.specs.Invariant
 use Rattle.room_laws.proofs.Maps.{conn_same, conn_other, get_same, get_other}

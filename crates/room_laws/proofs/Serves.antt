@@ -12,8 +12,8 @@ use Rattle.room_model.specs.Account as Batch
 use Rattle.room_model.specs.Server
 use Rattle.room_model.specs.Server.{Link, Up, Served}
 use Rattle.room_model.specs.World
-use Rattle.room_model.specs.World.{Conn, Host, Running, Fuse, state_in, links_of, room}
-use Rattle.room_model.specs.Run.{Run, seat, IsUndisturbed}
+use Rattle.room_model.specs.World.{Conn, Host, Running, Fuse, state_in, links_of, room, seat}
+use Rattle.room_model.specs.Run.{Run, IsUndisturbed}
 use Rattle.room_laws.specs.Core.{actor}
 use Rattle.room_laws.specs.Queues.{InOrder}
 use Rattle.room_laws.specs.Invariant

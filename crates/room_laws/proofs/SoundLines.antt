@@ -15,10 +15,9 @@ use Rattle.room_model.specs.Comes
 use Rattle.room_model.specs.Server
 use Rattle.room_model.specs.Server.{Down, Pong, Message, Closed, Up, Link, Served}
 use Rattle.room_model.specs.Lines as lines
-use Rattle.room_model.specs.Sound.{IsSound, IsSoundEdit, IsLine, IsReadSound}
+use Rattle.room_model.specs.Sound.{IsSound, IsSoundEdit, IsCall, IsTraffic, IsService, IsLine, IsReadSound}
 use Rattle.room_model.specs.World
-use Rattle.room_model.specs.World.{World, Conn, Seat, Stepped, Host, Running, Stopped, state_in, entries_in}
-use Rattle.room_model.specs.Run.{seat_in, account}
+use Rattle.room_model.specs.World.{World, Conn, Seat, Stepped, Host, Running, Stopped, state_in, entries_in, seat, account}
 use Rattle.room_laws.specs.Accounts.{KeepsSound}
 use Rattle.room_laws.specs.Invariant.{conn_in}
 use Rattle.room_laws.proofs.ReadSound.{read_sound}
@@ -238,37 +237,21 @@ module _ (n : ℕ) (s : State) where
         send (World.with_seat (World.open_conn v (Some c)) c q) (w.opened + 1) (World.frame_up (calls.hello_of x) ∷ [])
         (put_seat (World.open_conn v (Some c)) c q (open_conn v (Some c) (cut_present w p.present h) low key) sound) (hello_sound x sound, tt)
 
-    client_line : (l : lines.Line) → IsLine l → w.opened < n → IsKey n → Stands n s (World.client_line w number c p l)
-    client_line (lines.Dial d) i below key = quietly _ (dials below key)
-    client_line (lines.Edits d e) i below key = edits e (calls.edit p.account e) i.1 refl
-    client_line (lines.Begin d) i below key = begins (calls.batch_begin p.account) refl
-    client_line (lines.End d) i below key = ends (calls.batch_end p.account) refl
-    client_line (lines.Undo d) i below key = backs calls.Undo (calls.go_back calls.Undo p.account) refl
-    client_line (lines.Redo d) i below key = backs calls.Redo (calls.go_back calls.Redo p.account) refl
-    client_line (lines.Pause d) i below key = quietly _ (put (calls.pause p.account) p.present p.noticed (keep.pauses p.account hp))
-    client_line (lines.Resume d) i below key = quietly _ (put (calls.resume p.account) p.present p.noticed (keep.resumes p.account hp))
-    client_line (lines.Clear d) i below key = quietly _ (put (calls.clear p.account) p.present p.noticed (keep.clears p.account hp))
-    client_line (lines.Presence d patch in_history) i below key = says (calls.presence p.account patch in_history) (λ y e. keep.presence p.account y patch in_history hp i.1 e)
-    client_line (lines.Event d e) i below key = says (calls.event p.account e) (λ y j. keep.event p.account y e hp i.1 j)
-    client_line (lines.Flush d) i below key = speaks (calls.flushed p.account) (calls.flush_frames p.account) (keep.flushed p.account hp) (flush_sound p.account hp)
-    client_line (lines.Resend d) i below key = speaks (calls.resent p.account) (calls.resend_frames p.account) (keep.resent p.account hp) (resend_sound p.account hp)
-    client_line (lines.Goes_up k) i below key = quietly w h
-    client_line (lines.Comes_down k) i below key = quietly w h
-    client_line (lines.Drain m) i below key = quietly w h
-    client_line (lines.Cut d) i below key = quietly _ (cuts (calls.lost p.account) (keep.lost p.account hp))
-    client_line (lines.Gone k) i below key = quietly w h
-    client_line lines.Stop i below key = quietly w h
-    client_line lines.Start i below key = quietly w h
-    client_line (lines.Fuse m how) i below key = quietly w h
-    client_line lines.Compact i below key = quietly w h
-    client_line (lines.Limit updates sessions) i below key = quietly w h
-    client_line lines.Link i below key = quietly w h
-    client_line (lines.Raw k text) i below key = quietly w h
-    client_line (lines.Show spot) i below key = saying w _ h
-    client_line (lines.Brief spot) i below key = saying w _ h
-    client_line (lines.Others d) i below key = saying w _ h
-    client_line (lines.HistoryOf d) i below key = saying w _ h
-    client_line (lines.NoticesOf d) i below key = saying w _ h
+    client_calls : (call : lines.Call) → IsCall call → w.opened < n → IsKey n → Stands n s (World.client_calls w number c p call)
+    client_calls lines.Dial i below key = quietly _ (dials below key)
+    client_calls (lines.Edits e) i below key = edits e (calls.edit p.account e) i refl
+    client_calls lines.Begin i below key = begins (calls.batch_begin p.account) refl
+    client_calls lines.End i below key = ends (calls.batch_end p.account) refl
+    client_calls lines.Undo i below key = backs calls.Undo (calls.go_back calls.Undo p.account) refl
+    client_calls lines.Redo i below key = backs calls.Redo (calls.go_back calls.Redo p.account) refl
+    client_calls lines.Pause i below key = quietly _ (put (calls.pause p.account) p.present p.noticed (keep.pauses p.account hp))
+    client_calls lines.Resume i below key = quietly _ (put (calls.resume p.account) p.present p.noticed (keep.resumes p.account hp))
+    client_calls lines.Clear i below key = quietly _ (put (calls.clear p.account) p.present p.noticed (keep.clears p.account hp))
+    client_calls (lines.Presence patch in_history) i below key = says (calls.presence p.account patch in_history) (λ y e. keep.presence p.account y patch in_history hp i e)
+    client_calls (lines.Event e) i below key = says (calls.event p.account e) (λ y j. keep.event p.account y e hp i j)
+    client_calls lines.Flush i below key = speaks (calls.flushed p.account) (calls.flush_frames p.account) (keep.flushed p.account hp) (flush_sound p.account hp)
+    client_calls lines.Resend i below key = speaks (calls.resent p.account) (calls.resend_frames p.account) (keep.resent p.account hp) (resend_sound p.account hp)
+    client_calls lines.Cut i below key = quietly _ (cuts (calls.lost p.account) (keep.lost p.account hp))
 
     -- what comes down
     takes_next : (k : ℕ) (m : ServerMsg) (r : Result Comes.Took Comes.FrameFault) → IsSoundDown (Message m) → Comes.comes p.account m ≡ r
@@ -285,26 +268,6 @@ module _ (n : ℕ) (s : State) where
     takes k (Closed code text) i = saying _ _ (cuts (calls.lost p.account) (keep.lost p.account hp))
 
   module _ (keep : KeepsSound) where
-    seat_got : (w : World) (c : ℕ) (p : Seat) → Same n s w → get w.clients c ≡ Some p → IsSound p.account
-    seat_got w c p h e = subst (λ o. IsSound (seat_in o).account) e (h.world.clients c)
-
-    seat_at : (w : World) (c : ℕ) (o : Option Seat) → get w.clients c ≡ o → Same n s w → Same n s (World.seated_at w c o)
-    seat_at w c (Some p) e h = h
-    seat_at w c None e h = put_seat w c World.new_seat h (subst (λ o. IsSound (seat_in o).account) e (h.world.clients c))
-
-    seat_opened : (w : World) (c : ℕ) (o : Option Seat) → (World.seated_at w c o).opened ≡ w.opened
-    seat_opened w c None = refl
-    seat_opened w c (Some p) = refl
-
-    client_at : (w : World) (number c : ℕ) (l : lines.Line) (o : Option Seat) → get w.clients c ≡ o → Same n s w → IsLine l → w.opened < n → IsKey n → Stands n s (World.client_at w number c l o)
-    client_at w number c l None e h i below key = quietly w h
-    client_at w number c l (Some p) e h i below key = client_line keep w number c p h (seat_got w c p h e) l i below key
-
-    of_client : (w : World) (number c : ℕ) (l : lines.Line) → Same n s w → IsLine l → w.opened < n → IsKey n → Stands n s (World.of_client w number c l)
-    of_client w number c l h i below key =
-        let u = World.seated w c in
-        client_at u number c l (get u.clients c) refl (seat_at w c (get w.clients c) refl h) i (omega (arith, below, seat_opened w c (get w.clients c))) key
-
     -- down
 
     link_takes : (w : World) (k : ℕ) (m : Down) → Same n s w → Stands n s (World.link_takes w k m)
@@ -312,13 +275,9 @@ module _ (n : ℕ) (s : State) where
     link_takes w k (Message m) h = saying w _ h
     link_takes w k (Closed code text) h = saying w _ h
 
-    taken_by : (w : World) (number c k : ℕ) (m : Down) (o : Option Seat) → get w.clients c ≡ o → Same n s w → IsSoundDown m → Stands n s (World.taken_by w number c k m o)
-    taken_by w number c k m None e h i = quietly w h
-    taken_by w number c k m (Some p) e h i = takes keep w number c p h (seat_got w c p h e) k m i
-
     owner_takes : (w : World) (number k : ℕ) (m : Down) (o : Option ℕ) → Same n s w → IsSoundDown m → Stands n s (World.owner_takes w number k m o)
     owner_takes w number k m None h i = link_takes w k m h
-    owner_takes w number k m (Some c) h i = taken_by w number c k m (get w.clients c) refl h i
+    owner_takes w number k m (Some c) h i = takes keep w number c (seat w c) h (h.world.clients c) k m i
 
     down_from : (w : World) (number k : ℕ) (q : Conn) (ms : List Down) → q.down ≡ ms → IsSoundConn q → Same n s w → Stands n s (World.down_from w number k q ms)
     down_from w number k q [] e i h = quietly w h
@@ -492,37 +451,26 @@ module _ (keep : KeepsSound) (items : ItemsOfValid) (n : ℕ) where
   at : (s : State) (w : World) → IsSoundWorld n w → s ≡ state_in w.host → Same n s w
   at s w h e = record { world = h; state = sym e }
 
+  conn_line : (w : World) (number k : ℕ) (traffic : lines.Traffic) → IsSoundWorld n w → IsTraffic traffic → Stands n (state_in w.host) (World.conn_line w number k traffic)
+  conn_line w number k lines.GoesUp h i = up_at n _ items w k (get w.conns k) refl (at _ w h refl)
+  conn_line w number k lines.ComesDown h i = down_at n _ keep w number k (get w.conns k) refl (at _ w h refl)
+  conn_line w number k lines.Gone h i = quietly n _ _ (gone_on n _ items w k w.host (World.is_attached w k) refl (at _ w h refl))
+  conn_line w number k (lines.Raw text) h i = quietly n _ _ (raw_at n _ w k text (get w.conns k) (at _ w h refl) i)
+
+  server_line : (w : World) (service : lines.Service) → IsSoundWorld n w → IsService service → Stands n (state_in w.host) (World.server_line w service)
+  server_line w lines.Stop h i = quietly n _ _ (stop n _ w w.host refl (at _ w h refl))
+  server_line w lines.Start h i = start n _ w w.host refl (at _ w h refl)
+  server_line w (lines.Fuse calls how) h i = quietly n _ _ (put_fuse n _ w (Some (record { left = calls; how = how })) (at _ w h refl))
+  server_line w lines.Compact h i = quietly n _ _ (compact n _ w w.host refl (at _ w h refl))
+  server_line w (lines.Limit updates sessions) h i = quietly n _ _ (limit n _ w (record { updates = updates; sessions = sessions }) (at _ w h refl) (record { updates = i.0; sessions = i.1 }))
+  server_line w lines.ShowServer h i = saying n _ w _ (at _ w h refl)
+  server_line w lines.BriefServer h i = saying n _ w _ (at _ w h refl)
+
   -- a line, of a world in which one more connection has room
   pub step_stands : (w : World) (number : ℕ) (l : lines.Line) → IsSoundWorld n w → IsLine l → w.opened < n → IsKey n → Stands n (state_in w.host) (World.step w number l)
-  step_stands w number (lines.Dial c) h i below key = of_client n _ keep w number c (lines.Dial c) (at _ w h refl) i below key
-  step_stands w number (lines.Edits c e) h i below key = of_client n _ keep w number c (lines.Edits c e) (at _ w h refl) i below key
-  step_stands w number (lines.Begin c) h i below key = of_client n _ keep w number c (lines.Begin c) (at _ w h refl) i below key
-  step_stands w number (lines.End c) h i below key = of_client n _ keep w number c (lines.End c) (at _ w h refl) i below key
-  step_stands w number (lines.Undo c) h i below key = of_client n _ keep w number c (lines.Undo c) (at _ w h refl) i below key
-  step_stands w number (lines.Redo c) h i below key = of_client n _ keep w number c (lines.Redo c) (at _ w h refl) i below key
-  step_stands w number (lines.Pause c) h i below key = of_client n _ keep w number c (lines.Pause c) (at _ w h refl) i below key
-  step_stands w number (lines.Resume c) h i below key = of_client n _ keep w number c (lines.Resume c) (at _ w h refl) i below key
-  step_stands w number (lines.Clear c) h i below key = of_client n _ keep w number c (lines.Clear c) (at _ w h refl) i below key
-  step_stands w number (lines.Presence c patch in_history) h i below key = of_client n _ keep w number c (lines.Presence c patch in_history) (at _ w h refl) i below key
-  step_stands w number (lines.Event c e) h i below key = of_client n _ keep w number c (lines.Event c e) (at _ w h refl) i below key
-  step_stands w number (lines.Flush c) h i below key = of_client n _ keep w number c (lines.Flush c) (at _ w h refl) i below key
-  step_stands w number (lines.Resend c) h i below key = of_client n _ keep w number c (lines.Resend c) (at _ w h refl) i below key
-  step_stands w number (lines.Cut c) h i below key = of_client n _ keep w number c (lines.Cut c) (at _ w h refl) i below key
-  step_stands w number (lines.Show (lines.AClient c)) h i below key = of_client n _ keep w number c (lines.Show (lines.AClient c)) (at _ w h refl) i below key
-  step_stands w number (lines.Show lines.TheServer) h i below key = saying n _ w _ (at _ w h refl)
-  step_stands w number (lines.Brief (lines.AClient c)) h i below key = of_client n _ keep w number c (lines.Brief (lines.AClient c)) (at _ w h refl) i below key
-  step_stands w number (lines.Brief lines.TheServer) h i below key = saying n _ w _ (at _ w h refl)
-  step_stands w number (lines.Others c) h i below key = of_client n _ keep w number c (lines.Others c) (at _ w h refl) i below key
-  step_stands w number (lines.HistoryOf c) h i below key = of_client n _ keep w number c (lines.HistoryOf c) (at _ w h refl) i below key
-  step_stands w number (lines.NoticesOf c) h i below key = of_client n _ keep w number c (lines.NoticesOf c) (at _ w h refl) i below key
-  step_stands w number (lines.Goes_up k) h i below key = up_at n _ items w k (get w.conns k) refl (at _ w h refl)
-  step_stands w number (lines.Comes_down k) h i below key = down_at n _ keep w number k (get w.conns k) refl (at _ w h refl)
+  step_stands w number (lines.OfClient c call) h i below key = client_calls n _ keep w number c (seat w c) (at _ w h refl) (h.clients c) call i.1 below key
+  step_stands w number (lines.AsksClient c question) h i below key = saying n _ w _ (at _ w h refl)
+  step_stands w number (lines.OfConnection k traffic) h i below key = conn_line w number k traffic h i
+  step_stands w number (lines.OfServer service) h i below key = server_line w service h i
   step_stands w number (lines.Drain m) h i below key = drains _ w number m (at _ w h refl)
-  step_stands w number (lines.Gone k) h i below key = quietly n _ _ (gone_on n _ items w k w.host (World.is_attached w k) refl (at _ w h refl))
-  step_stands w number lines.Stop h i below key = quietly n _ _ (stop n _ w w.host refl (at _ w h refl))
-  step_stands w number lines.Start h i below key = start n _ w w.host refl (at _ w h refl)
-  step_stands w number (lines.Fuse calls how) h i below key = quietly n _ _ (put_fuse n _ w (Some (record { left = calls; how = how })) (at _ w h refl))
-  step_stands w number lines.Compact h i below key = quietly n _ _ (compact n _ w w.host refl (at _ w h refl))
-  step_stands w number (lines.Limit updates sessions) h i below key = quietly n _ _ (limit n _ w (record { updates = updates; sessions = sessions }) (at _ w h refl) (record { updates = i.0; sessions = i.1 }))
   step_stands w number lines.Link h i below key = quietly n _ _ (open_conn n _ w None (at _ w h refl) below key)
-  step_stands w number (lines.Raw k text) h i below key = quietly n _ _ (raw_at n _ w k text (get w.conns k) (at _ w h refl) i)

@@ -8,8 +8,8 @@ use Rattle.room_model.specs.Account.{Batch, actor_in}
 use Rattle.room_model.specs.Server.{Server, Limits}
 use Rattle.room_model.specs.Lines as lines
 use Rattle.room_model.specs.World
-use Rattle.room_model.specs.World.{Conn, Seat, Host, Running, Stopped, state_in, links_of}
-use Rattle.room_model.specs.Run.{Run, seat_in, seat, account, all_given, IsUndisturbed, with_step}
+use Rattle.room_model.specs.World.{Conn, Seat, Host, Running, Stopped, state_in, links_of, seat_in, seat, account}
+use Rattle.room_model.specs.Run.{Run, all_given, IsUndisturbed, with_step}
 use Rattle.room_laws.specs.Core.{Core, core, actor}
 use Rattle.room_laws.specs.Queues.{Place}
 use Rattle.room_laws.specs.Invariant

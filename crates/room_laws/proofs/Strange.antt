@@ -4,8 +4,8 @@ use Rattle.std.specs.Prelude.{Option, Some, None, is_some}
 use Rattle.std.proofs.lemmas.Bool.{cases_eq}
 use Rattle.std.specs.FinMap.{get}
 use Rattle.room_log.specs.Log.{State}
-use Rattle.room_model.specs.World.{Conn, with_conn}
-use Rattle.room_model.specs.Run.{Run, seat}
+use Rattle.room_model.specs.World.{Conn, with_conn, seat}
+use Rattle.room_model.specs.Run.{Run}
 use Rattle.room_laws.specs.Invariant
 use Rattle.room_laws.proofs.Maps.{conn_same, conn_other, get_same, get_other}
 use Rattle.room_laws.proofs.Facts.{none_some}

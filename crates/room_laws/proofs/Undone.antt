@@ -6,7 +6,8 @@ use Rattle.room_log.specs.Log.{State, Update, tree_after, updates_of}
 use Rattle.room_model.specs.Account.{Batch, actor}
 use Rattle.room_model.specs.Sound.{RunsOn}
 use Rattle.room_steps.specs.Laws.{UndoRestores}
-use Rattle.room_model.specs.Run.{Run, run, opened, account, issued_of}
+use Rattle.room_model.specs.World.{account}
+use Rattle.room_model.specs.Run.{Run, run, opened, issued_of}
 use Rattle.room_laws.specs.Ledger.{In}
 use Rattle.room_laws.specs.Laws.{Kept, Once}
 use Rattle.room_laws.specs.Undoing.{Accepts, TakesBack, IsInOrder, EachUndone, bodies_after}

@@ -15,8 +15,8 @@ use Rattle.room_model.specs.Lines as lines
 use Rattle.room_model.specs.Server
 use Rattle.room_model.specs.Sound.{IsSound}
 use Rattle.room_model.specs.World
-use Rattle.room_model.specs.World.{Conn, Seat, Stepped, state_in}
-use Rattle.room_model.specs.Run.{Run, seat_in, line, run, opened}
+use Rattle.room_model.specs.World.{Conn, Seat, Stepped, state_in, seat_in}
+use Rattle.room_model.specs.Run.{Run, line, run, opened}
 use Rattle.room_laws.specs.Accounts.{KeepsSound}
 use Rattle.room_laws.specs.Invariant.{conn_in}
 use Rattle.room_laws.specs.Laws.{ReadsBack}

@@ -8,8 +8,8 @@ use Rattle.room_msg.specs.declared.messages.ServerMsg.TheVariants as server
 use Rattle.room_log.specs.Log.{State, Session, Update, last_of, last_in, session_of, updates_of}
 use Rattle.room_model.specs.Account.{Dialled, Connected, Synced}
 use Rattle.room_model.specs.Server.{Down, Message, Closed, Link, Up, has_session}
-use Rattle.room_model.specs.World.{state_in}
-use Rattle.room_model.specs.Run.{Run, seat, all_given, IsUndisturbed}
+use Rattle.room_model.specs.World.{state_in, seat}
+use Rattle.room_model.specs.Run.{Run, all_given, IsUndisturbed}
 use Rattle.room_laws.specs.Ledger.{Silent}
 use Rattle.room_laws.specs.Core.{actor}
 use Rattle.room_laws.specs.Queues.{Place, IsOn, Waits}

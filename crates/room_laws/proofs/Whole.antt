@@ -6,12 +6,13 @@ use Rattle.room_items.specs.Items.{tree_in, items_of}
 use Rattle.room_log.specs.Log.{State, Update, updates_of}
 use Rattle.room_model.specs.Lines as lines
 use Rattle.room_model.specs.World
-use Rattle.room_model.specs.Run.{Run, seat, seat_in, with_step, run, line, opened}
+use Rattle.room_model.specs.World.{seat, seat_in, account}
+use Rattle.room_model.specs.Run.{Run, with_step, run, line, opened}
 use Rattle.room_laws.specs.Core.{core}
 use Rattle.room_laws.specs.Invariant
 use Rattle.room_laws.specs.Laws.{ReadsBack, IsReadable, EachShows, EachOnce}
 use Rattle.room_laws.proofs.Maps.{get_none}
-use Rattle.room_laws.proofs.ClientLines.{keeps_of_client}
+use Rattle.room_laws.proofs.ClientLines.{keeps_client_calls}
 use Rattle.room_laws.proofs.OwnLines.{keeps_saying}
 use Rattle.room_laws.proofs.Downs.{keeps_down}
 use Rattle.room_laws.proofs.Leaving.{keeps_gone}
@@ -63,39 +64,28 @@ module _ (s : State) where
   unfolding World.drain
   keeps_drain r number n st = drain_from_keeps r number n (World.quiet r.world) (saying r [] st)
 
+  keeps_conn : (r : Run) (number k : ℕ) (traffic : lines.Traffic) → Good s r → Good s (with_step r (World.conn_line r.world number k traffic))
+  keeps_conn r number k lines.GoesUp st = up r k st
+  keeps_conn r number k lines.ComesDown st = lift r (World.comes_down r.world number k) (λ i. keeps_down s r number k i) st
+  keeps_conn r number k lines.Gone st = lift r (World.quiet (World.goes r.world k)) (λ i. keeps_gone s r k i) st
+  keeps_conn r number k (lines.Raw text) st = lift r (World.conn_line r.world number k (lines.Raw text)) (λ i. keeps_raw s r i k text) st
+
+  keeps_server : (r : Run) (service : lines.Service) → Invariant.Inv s r → Invariant.Inv s (with_step r (World.server_line r.world service))
+  keeps_server r lines.Stop i = keeps_stop s r i
+  keeps_server r lines.Start i = keeps_start s r i
+  keeps_server r (lines.Fuse n how) i = keeps_fuse s r i (record { left = n; how = how })
+  keeps_server r lines.Compact i = keeps_compact s r i
+  keeps_server r (lines.Limit updates sessions) i = keeps_limit s r i (record { updates = updates; sessions = sessions })
+  keeps_server r lines.ShowServer i = keeps_saying s r (World.server_shown r.world.host ∷ []) i
+  keeps_server r lines.BriefServer i = keeps_saying s r (World.server_brief r.world.host ∷ []) i
+
   pub keeps : (r : Run) (number : ℕ) (l : lines.Line) → Good s r → Good s (line r number l)
-  keeps r number (lines.Dial c) st = lift r (World.step r.world number (lines.Dial c)) (keeps_of_client s r number c (lines.Dial c)) st
-  keeps r number (lines.Edits c e) st = lift r (World.step r.world number (lines.Edits c e)) (keeps_of_client s r number c (lines.Edits c e)) st
-  keeps r number (lines.Begin c) st = lift r (World.step r.world number (lines.Begin c)) (keeps_of_client s r number c (lines.Begin c)) st
-  keeps r number (lines.End c) st = lift r (World.step r.world number (lines.End c)) (keeps_of_client s r number c (lines.End c)) st
-  keeps r number (lines.Undo c) st = lift r (World.step r.world number (lines.Undo c)) (keeps_of_client s r number c (lines.Undo c)) st
-  keeps r number (lines.Redo c) st = lift r (World.step r.world number (lines.Redo c)) (keeps_of_client s r number c (lines.Redo c)) st
-  keeps r number (lines.Pause c) st = lift r (World.step r.world number (lines.Pause c)) (keeps_of_client s r number c (lines.Pause c)) st
-  keeps r number (lines.Resume c) st = lift r (World.step r.world number (lines.Resume c)) (keeps_of_client s r number c (lines.Resume c)) st
-  keeps r number (lines.Clear c) st = lift r (World.step r.world number (lines.Clear c)) (keeps_of_client s r number c (lines.Clear c)) st
-  keeps r number (lines.Presence c patch in_history) st = lift r (World.step r.world number (lines.Presence c patch in_history)) (keeps_of_client s r number c (lines.Presence c patch in_history)) st
-  keeps r number (lines.Event c e) st = lift r (World.step r.world number (lines.Event c e)) (keeps_of_client s r number c (lines.Event c e)) st
-  keeps r number (lines.Flush c) st = lift r (World.step r.world number (lines.Flush c)) (keeps_of_client s r number c (lines.Flush c)) st
-  keeps r number (lines.Resend c) st = lift r (World.step r.world number (lines.Resend c)) (keeps_of_client s r number c (lines.Resend c)) st
-  keeps r number (lines.Cut c) st = lift r (World.step r.world number (lines.Cut c)) (keeps_of_client s r number c (lines.Cut c)) st
-  keeps r number (lines.Show (lines.AClient c)) st = lift r (World.step r.world number (lines.Show (lines.AClient c))) (keeps_of_client s r number c (lines.Show (lines.AClient c))) st
-  keeps r number (lines.Show lines.TheServer) st = saying r (World.server_shown r.world.host ∷ []) st
-  keeps r number (lines.Brief (lines.AClient c)) st = lift r (World.step r.world number (lines.Brief (lines.AClient c))) (keeps_of_client s r number c (lines.Brief (lines.AClient c))) st
-  keeps r number (lines.Brief lines.TheServer) st = saying r (World.server_brief r.world.host ∷ []) st
-  keeps r number (lines.Others c) st = lift r (World.step r.world number (lines.Others c)) (keeps_of_client s r number c (lines.Others c)) st
-  keeps r number (lines.HistoryOf c) st = lift r (World.step r.world number (lines.HistoryOf c)) (keeps_of_client s r number c (lines.HistoryOf c)) st
-  keeps r number (lines.NoticesOf c) st = lift r (World.step r.world number (lines.NoticesOf c)) (keeps_of_client s r number c (lines.NoticesOf c)) st
-  keeps r number (lines.Goes_up k) st = up r k st
-  keeps r number (lines.Comes_down k) st = lift r (World.step r.world number (lines.Comes_down k)) (λ i. keeps_down s r number k i) st
+  keeps r number (lines.OfClient c call) st = lift r (World.client_calls r.world number c (seat r.world c) call) (λ i. keeps_client_calls s r number c i call) st
+  keeps r number (lines.AsksClient c question) st = saying r (lines.answer_line (Some c) (account r.world c) (seat r.world c).noticed question ∷ []) st
+  keeps r number (lines.OfConnection k traffic) st = keeps_conn r number k traffic st
+  keeps r number (lines.OfServer service) st = lift r (World.server_line r.world service) (keeps_server r service) st
   keeps r number (lines.Drain n) st = keeps_drain r number n st
-  keeps r number (lines.Gone k) st = lift r (World.step r.world number (lines.Gone k)) (λ i. keeps_gone s r k i) st
-  keeps r number lines.Stop st = lift r (World.step r.world number lines.Stop) (λ i. keeps_stop s r i) st
-  keeps r number lines.Start st = lift r (World.step r.world number lines.Start) (λ i. keeps_start s r i) st
-  keeps r number (lines.Fuse n how) st = lift r (World.step r.world number (lines.Fuse n how)) (λ i. keeps_fuse s r i (record { left = n; how = how })) st
-  keeps r number lines.Compact st = lift r (World.step r.world number lines.Compact) (λ i. keeps_compact s r i) st
-  keeps r number (lines.Limit updates sessions) st = lift r (World.step r.world number (lines.Limit updates sessions)) (λ i. keeps_limit s r i (record { updates = updates; sessions = sessions })) st
-  keeps r number lines.Link st = lift r (World.step r.world number lines.Link) (λ i. keeps_link s r i) st
-  keeps r number (lines.Raw k text) st = lift r (World.step r.world number (lines.Raw k text)) (λ i. keeps_raw s r i k text) st
+  keeps r number lines.Link st = lift r (World.quiet (World.open_conn r.world None)) (λ i. keeps_link s r i) st
 
   pub keeps_all : (ls : List (ℕ × lines.Line)) (r : Run) → Good s r → Good s (run r ls)
   keeps_all [] r st = st

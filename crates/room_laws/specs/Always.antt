@@ -12,8 +12,8 @@ use Rattle.room_model.specs.Comes.{frame_comes}
 use Rattle.room_model.specs.Lines as lines
 use Rattle.room_model.specs.Lines.{Line}
 use Rattle.room_model.specs.Server.{Server, Down, Message, Up, serve}
-use Rattle.room_model.specs.World.{Running}
-use Rattle.room_model.specs.Run.{run, opened, seat, account, IsUndisturbed}
+use Rattle.room_model.specs.World.{Running, seat, account}
+use Rattle.room_model.specs.Run.{run, opened, IsUndisturbed}
 use Rattle.room_laws.specs.Invariant.{conn}
 use Rattle.room_laws.specs.Laws.{ShowsLog, Kept, spares_all}
 use Rattle.room_laws.specs.Undo.{Course, Goes, Lies, whole}
@@ -50,7 +50,7 @@ AlwaysUndone = (s : State) (ls : List (ℕ × Line)) (c : ℕ) (shown : Nodes) (
 
 -- the lines of a course: a batch of the client, and its undoing
 abbrev pub lines_of : Course → ℕ → List (ℕ × Line)
-lines_of q c = q.before ++ (q.first, lines.Begin c) ∷ (q.within ++ (q.last, lines.End c) ∷ (q.until ++ (q.back, lines.Undo c) ∷ q.rest))
+lines_of q c = q.before ++ (q.first, lines.OfClient c lines.Begin) ∷ (q.within ++ (q.last, lines.OfClient c lines.End) ∷ (q.until ++ (q.back, lines.OfClient c lines.Undo) ∷ q.rest))
 
 abbrev pub AlwaysUndo : Type 0
 AlwaysUndo = (s : State) (q : Course) (c : ℕ) (t : Nodes) (made back : Batch) (us vs ws : List Update) (b u : Update) → IsValidState s → AreLines (lines_of q c)

@@ -9,8 +9,8 @@ use Rattle.room_msg.specs.declared.messages.ClientFrame.TheVariants as frame
 use Rattle.room_log.specs.Log.{Session, State, Update, tree_after, session_of, last_of, last_after, updates_of}
 use Rattle.room_model.specs.Account.{Batch, Stage, Idle, Dialled, Synced, actor_in}
 use Rattle.room_model.specs.Server.{Down, Up, Link}
-use Rattle.room_model.specs.World.{World, Host, Running, Stopped, Conn, room, state_in, links_of}
-use Rattle.room_model.specs.Run.{Run, seat, account, issued_of, all_given, IsUndisturbed}
+use Rattle.room_model.specs.World.{World, Host, Running, Stopped, Conn, room, state_in, links_of, seat, account}
+use Rattle.room_model.specs.Run.{Run, issued_of, all_given, IsUndisturbed}
 use Rattle.room_laws.specs.Ledger.{Ledger, Silent, upto}
 use Rattle.room_laws.specs.Core.{Core, core, issued, actor}
 use Rattle.room_laws.specs.Queues.{Place, IsOn, Waits, InOrder}

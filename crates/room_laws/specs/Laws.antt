@@ -10,8 +10,8 @@ use Rattle.room_msg.specs.declared.messages.ServerMsg.{ServerMsg}
 use Rattle.room_msg.specs.declared.messages.ServerFrame.TheVariants.{Msgs}
 use Rattle.room_model.specs.Comes.{frame_comes}
 use Rattle.room_model.specs.Server.{Server, Down, Pong, Message, Closed, Up, serve}
-use Rattle.room_model.specs.World.{Running, state_in}
-use Rattle.room_model.specs.Run.{Run, run, opened, seat, account, issued_of, IsUndisturbed}
+use Rattle.room_model.specs.World.{Running, state_in, seat, account}
+use Rattle.room_model.specs.Run.{Run, run, opened, issued_of, IsUndisturbed}
 use Rattle.room_model.specs.Sound.{RunsOn}
 use Rattle.room_laws.specs.Invariant.{conn}
 

@@ -9,7 +9,8 @@ use Rattle.room_model.specs.Account.{Batch, actor}
 use Rattle.room_model.specs.Lines.{Line}
 use Rattle.room_nodes.specs.Ordered.{IsOrderedTree, AreOrderedBodies}
 use Rattle.room_nodes.specs.Reversal.{reverse_all}
-use Rattle.room_model.specs.Run.{Run, run, opened, account, issued_of, IsUndisturbed}
+use Rattle.room_model.specs.World.{account}
+use Rattle.room_model.specs.Run.{Run, run, opened, issued_of, IsUndisturbed}
 use Rattle.room_laws.specs.Ledger.{In}
 use Rattle.room_laws.specs.Laws.{IsReadable}
 

@@ -15,8 +15,8 @@ use Rattle.room_log.specs.Log.{State}
 use Rattle.room_log.specs.Follows.{IsKey, IsValidLog, IsValidState, most, most_actor}
 use Rattle.room_model.specs.Lines.{Line}
 use Rattle.room_model.specs.Server.{Down, Pong, Message, Closed, Up, Limits, Link, Server}
-use Rattle.room_model.specs.World.{Conn, Host, Running, Stopped, World}
-use Rattle.room_model.specs.Run.{run, opened, account}
+use Rattle.room_model.specs.World.{Conn, Host, Running, Stopped, World, account}
+use Rattle.room_model.specs.Run.{run, opened}
 use Rattle.room_model.specs.Sound.{AreItems, IsLine, IsSound, IsValidTree}
 use Rattle.room_laws.specs.Accounts.{IsValidServerMsg}
 use Rattle.room_laws.specs.Invariant.{conn}

@@ -30,7 +30,7 @@ use Rattle.room_model.specs.Calls.{entry_bodies, presence_size}
 use Rattle.room_model.specs.Comes.{parts_items}
 use Rattle.room_model.specs.Server.{Up}
 use Rattle.room_model.specs.Lines as lines
-use Rattle.room_model.specs.Lines.{Line, Spot}
+use Rattle.room_model.specs.Lines.{Line}
 
 -- valid trees and operations: sound, and no value too deep for a frame
 
@@ -191,38 +191,41 @@ IsReadSound (Ok f) = IsSoundClientFrame f × IsShallowClientFrame f
 abbrev pub IsClient : ℕ → Type 0
 IsClient c = (1 ≤ c) × (c ≤ 64)
 
-abbrev pub IsSpot : Spot → Type 0
-IsSpot (lines.AClient c) = IsClient c
-IsSpot lines.TheServer = ⊤
+abbrev pub IsCall : lines.Call → Type 0
+IsCall lines.Dial = ⊤
+IsCall (lines.Edits e) = IsSoundEdit e
+IsCall lines.Begin = ⊤
+IsCall lines.End = ⊤
+IsCall lines.Undo = ⊤
+IsCall lines.Redo = ⊤
+IsCall lines.Pause = ⊤
+IsCall lines.Resume = ⊤
+IsCall lines.Clear = ⊤
+IsCall (lines.Presence patch in_history) = AreSoundMembers patch
+IsCall (lines.Event e) = IsJson (json_of e)
+IsCall lines.Flush = ⊤
+IsCall lines.Resend = ⊤
+IsCall lines.Cut = ⊤
+
+abbrev pub IsTraffic : lines.Traffic → Type 0
+IsTraffic lines.GoesUp = ⊤
+IsTraffic lines.ComesDown = ⊤
+IsTraffic lines.Gone = ⊤
+IsTraffic (lines.Raw text) = IsReadSound (client_frame_in text)
+
+abbrev pub IsService : lines.Service → Type 0
+IsService lines.Stop = ⊤
+IsService lines.Start = ⊤
+IsService (lines.Fuse calls how) = 1 ≤ calls
+IsService lines.Compact = ⊤
+IsService (lines.Limit updates sessions) = (updates ≤ most) × (sessions ≤ most_actor)
+IsService lines.ShowServer = ⊤
+IsService lines.BriefServer = ⊤
 
 abbrev pub IsLine : Line → Type 0
-IsLine (lines.Dial c) = IsClient c
-IsLine (lines.Edits c e) = IsClient c × IsSoundEdit e
-IsLine (lines.Begin c) = IsClient c
-IsLine (lines.End c) = IsClient c
-IsLine (lines.Undo c) = IsClient c
-IsLine (lines.Redo c) = IsClient c
-IsLine (lines.Pause c) = IsClient c
-IsLine (lines.Resume c) = IsClient c
-IsLine (lines.Clear c) = IsClient c
-IsLine (lines.Presence c patch in_history) = IsClient c × AreSoundMembers patch
-IsLine (lines.Event c e) = IsClient c × IsJson (json_of e)
-IsLine (lines.Flush c) = IsClient c
-IsLine (lines.Resend c) = IsClient c
-IsLine (lines.Goes_up k) = ⊤
-IsLine (lines.Comes_down k) = ⊤
+IsLine (lines.OfClient c call) = IsClient c × IsCall call
+IsLine (lines.AsksClient c question) = IsClient c
+IsLine (lines.OfConnection k traffic) = IsTraffic traffic
+IsLine (lines.OfServer service) = IsService service
 IsLine (lines.Drain n) = ⊤
-IsLine (lines.Cut c) = IsClient c
-IsLine (lines.Gone k) = ⊤
-IsLine lines.Stop = ⊤
-IsLine lines.Start = ⊤
-IsLine (lines.Fuse calls how) = 1 ≤ calls
-IsLine lines.Compact = ⊤
-IsLine (lines.Limit updates sessions) = (updates ≤ most) × (sessions ≤ most_actor)
 IsLine lines.Link = ⊤
-IsLine (lines.Raw k text) = IsReadSound (client_frame_in text)
-IsLine (lines.Show spot) = IsSpot spot
-IsLine (lines.Brief spot) = IsSpot spot
-IsLine (lines.Others c) = IsClient c
-IsLine (lines.HistoryOf c) = IsClient c
-IsLine (lines.NoticesOf c) = IsClient c

@@ -78,14 +78,17 @@ saying w ls = record (quiet w) { lines = ls }
 abbrev pub new_seat : Seat
 new_seat = record { account = new_account room; present = None; noticed = [] }
 
--- a client is there from its first line on
+-- a client that was not heard of yet is a new one; it is there once something changes it
 
-abbrev pub seated_at : World → ℕ → Option Seat → World
-seated_at w c None = record w { clients = insert w.clients c new_seat }
-seated_at w c (Some p) = w
+abbrev pub seat_in : Option Seat → Seat
+seat_in None = new_seat
+seat_in (Some p) = p
 
-abbrev pub seated : World → ℕ → World
-seated w c = seated_at w c (get w.clients c)
+abbrev pub seat : World → ℕ → Seat
+seat w c = seat_in (get w.clients c)
+
+abbrev pub account : World → ℕ → Account
+account w c = (seat w c).account
 
 abbrev pub with_seat : World → ℕ → Seat → World
 with_seat w c p = record w { clients = insert w.clients c p }
@@ -279,10 +282,6 @@ link_takes w k Pong = saying w (Lines.got_line k (codes "pong") ∷ [])
 link_takes w k (Message m) = saying w (Lines.got_line k (server_text m) ∷ [])
 link_takes w k (Closed code text) = saying w (Lines.closed_line k code text ∷ [])
 
-abbrev pub event_lines : ℕ → List (ℕ × Json) → List (List ℕ)
-event_lines c [] = []
-event_lines c (e ∷ es) = Lines.event_line c e ∷ event_lines c es
-
 -- a client that refuses a frame is lost, and its connection is as after a cut
 abbrev pub frame_taken : World → ℕ → ℕ → ℕ → Seat → Result Took Refusal → Stepped
 frame_taken w line c k p (Err out) = saying
@@ -290,20 +289,16 @@ frame_taken w line c k p (Err out) = saying
     (Lines.refused_line line (Lines.frame_fault_words out.fault) ∷ [])
 frame_taken w line c k p (Ok out) = saying
     (send_up (with_seat w c (record { account = out.account; present = p.present; noticed = out.notices })) k (map frame_up out.replies))
-    (event_lines c out.events)
+    (Lines.event_lines (Some c) out.events)
 
 abbrev pub client_takes : World → ℕ → ℕ → ℕ → Seat → Down → Stepped
 client_takes w line c k p Pong = frame_taken w line c k p (frame_comes p.account PongOf)
 client_takes w line c k p (Message m) = frame_taken w line c k p (frame_comes p.account (ServerMsgsOf (m ∷ [])))
 client_takes w line c k p (Closed code text) = saying (cut_seat w c p) (Lines.closed_line k code text ∷ [])
 
-abbrev pub taken_by : World → ℕ → ℕ → ℕ → Down → Option Seat → Stepped
-taken_by w line c k m None = quiet w
-taken_by w line c k m (Some p) = client_takes w line c k p m
-
 abbrev pub owner_takes : World → ℕ → ℕ → Down → Option ℕ → Stepped
 owner_takes w line k m None = link_takes w k m
-owner_takes w line k m (Some c) = taken_by w line c k m (get w.clients c)
+owner_takes w line k m (Some c) = client_takes w line c k (seat w c) m
 
 abbrev pub down_from : World → ℕ → ℕ → Conn → List Down → Stepped
 down_from w line k q [] = quiet w
@@ -397,36 +392,23 @@ say_out w line c p (Ok x) = quiet (with_seat w c (with_account p x))
 abbrev pub speaks : World → ℕ → Seat → Account → List (List ClientMsg) → Stepped
 speaks w c p x frames = quiet (send_present (with_seat w c (with_account p x)) p.present frames)
 
--- a line of the client c, which is there
+-- what the user of the client c calls
 
-abbrev pub client_line : World → ℕ → ℕ → Seat → Lines.Line → Stepped
-client_line w line c p (Lines.Dial d) = quiet (dial_seat w c p)
-client_line w line c p (Lines.Edits d e) = edit_out w line c p (edit p.account e)
-client_line w line c p (Lines.Begin d) = begin_out w line c p (batch_begin p.account)
-client_line w line c p (Lines.End d) = end_out w line c p (batch_end p.account)
-client_line w line c p (Lines.Undo d) = back_out w line c p (go_back Back p.account)
-client_line w line c p (Lines.Redo d) = back_out w line c p (go_back Forth p.account)
-client_line w line c p (Lines.Pause d) = quiet (with_seat w c (with_account p (pause p.account)))
-client_line w line c p (Lines.Resume d) = quiet (with_seat w c (with_account p (resume p.account)))
-client_line w line c p (Lines.Clear d) = quiet (with_seat w c (with_account p (clear p.account)))
-client_line w line c p (Lines.Presence d patch in_history) = say_out w line c p (presence p.account patch in_history)
-client_line w line c p (Lines.Event d e) = say_out w line c p (event p.account e)
-client_line w line c p (Lines.Flush d) = speaks w c p (flushed p.account) (flush_frames p.account)
-client_line w line c p (Lines.Resend d) = speaks w c p (resent p.account) (resend_frames p.account)
-client_line w line c p (Lines.Cut d) = quiet (cut_seat w c p)
-client_line w line c p (Lines.Show spot) = saying w (Lines.show_line c p.account ∷ [])
-client_line w line c p (Lines.Brief spot) = saying w (Lines.brief_line c p.account ∷ [])
-client_line w line c p (Lines.Others d) = saying w (Lines.others_line c p.account ∷ [])
-client_line w line c p (Lines.HistoryOf d) = saying w (Lines.history_line c p.account ∷ [])
-client_line w line c p (Lines.NoticesOf d) = saying w (Lines.notices_line c p.noticed ∷ [])
-client_line w line c p l = quiet w
-
-abbrev pub client_at : World → ℕ → ℕ → Lines.Line → Option Seat → Stepped
-client_at w line c l None = quiet w
-client_at w line c l (Some p) = client_line w line c p l
-
-abbrev pub of_client : World → ℕ → ℕ → Lines.Line → Stepped
-of_client w line c l = let u = seated w c in client_at u line c l (get u.clients c)
+abbrev pub client_calls : World → ℕ → ℕ → Seat → Lines.Call → Stepped
+client_calls w line c p Lines.Dial = quiet (dial_seat w c p)
+client_calls w line c p (Lines.Edits e) = edit_out w line c p (edit p.account e)
+client_calls w line c p Lines.Begin = begin_out w line c p (batch_begin p.account)
+client_calls w line c p Lines.End = end_out w line c p (batch_end p.account)
+client_calls w line c p Lines.Undo = back_out w line c p (go_back Back p.account)
+client_calls w line c p Lines.Redo = back_out w line c p (go_back Forth p.account)
+client_calls w line c p Lines.Pause = quiet (with_seat w c (with_account p (pause p.account)))
+client_calls w line c p Lines.Resume = quiet (with_seat w c (with_account p (resume p.account)))
+client_calls w line c p Lines.Clear = quiet (with_seat w c (with_account p (clear p.account)))
+client_calls w line c p (Lines.Presence patch in_history) = say_out w line c p (presence p.account patch in_history)
+client_calls w line c p (Lines.Event e) = say_out w line c p (event p.account e)
+client_calls w line c p Lines.Flush = speaks w c p (flushed p.account) (flush_frames p.account)
+client_calls w line c p Lines.Resend = speaks w c p (resent p.account) (resend_frames p.account)
+client_calls w line c p Lines.Cut = quiet (cut_seat w c p)
 
 -- lines of connections and of the server
 
@@ -493,40 +475,32 @@ abbrev pub server_brief : Host → List ℕ
 server_brief (Running v) = Lines.server_brief_line v.state
 server_brief (Stopped s) = Lines.server_stopped_line
 
+-- a line of a connection, and of the server
+
+abbrev pub conn_line : World → ℕ → ℕ → Lines.Traffic → Stepped
+conn_line w line k Lines.GoesUp = goes_up w k
+conn_line w line k Lines.ComesDown = comes_down w line k
+conn_line w line k Lines.Gone = quiet (goes w k)
+conn_line w line k (Lines.Raw text) = quiet (raw_at w k text (get w.conns k))
+
+abbrev pub server_line : World → Lines.Service → Stepped
+server_line w Lines.Stop = quiet (stop w w.host)
+server_line w Lines.Start = start w w.host
+server_line w (Lines.Fuse calls how) = quiet (record w { fuse = Some (record { left = calls; how = how }) })
+server_line w Lines.Compact = quiet (compact w w.host)
+server_line w (Lines.Limit updates sessions) = quiet (limit w (record { updates = updates; sessions = sessions }))
+server_line w Lines.ShowServer = saying w (server_shown w.host ∷ [])
+server_line w Lines.BriefServer = saying w (server_brief w.host ∷ [])
+
 -- a line of the schedule, with its number
 abbrev pub step : World → ℕ → Lines.Line → Stepped
-step w line (Lines.Dial c) = of_client w line c (Lines.Dial c)
-step w line (Lines.Edits c e) = of_client w line c (Lines.Edits c e)
-step w line (Lines.Begin c) = of_client w line c (Lines.Begin c)
-step w line (Lines.End c) = of_client w line c (Lines.End c)
-step w line (Lines.Undo c) = of_client w line c (Lines.Undo c)
-step w line (Lines.Redo c) = of_client w line c (Lines.Redo c)
-step w line (Lines.Pause c) = of_client w line c (Lines.Pause c)
-step w line (Lines.Resume c) = of_client w line c (Lines.Resume c)
-step w line (Lines.Clear c) = of_client w line c (Lines.Clear c)
-step w line (Lines.Presence c patch in_history) = of_client w line c (Lines.Presence c patch in_history)
-step w line (Lines.Event c e) = of_client w line c (Lines.Event c e)
-step w line (Lines.Flush c) = of_client w line c (Lines.Flush c)
-step w line (Lines.Resend c) = of_client w line c (Lines.Resend c)
-step w line (Lines.Cut c) = of_client w line c (Lines.Cut c)
-step w line (Lines.Show (Lines.AClient c)) = of_client w line c (Lines.Show (Lines.AClient c))
-step w line (Lines.Show Lines.TheServer) = saying w (server_shown w.host ∷ [])
-step w line (Lines.Brief (Lines.AClient c)) = of_client w line c (Lines.Brief (Lines.AClient c))
-step w line (Lines.Brief Lines.TheServer) = saying w (server_brief w.host ∷ [])
-step w line (Lines.Others c) = of_client w line c (Lines.Others c)
-step w line (Lines.HistoryOf c) = of_client w line c (Lines.HistoryOf c)
-step w line (Lines.NoticesOf c) = of_client w line c (Lines.NoticesOf c)
-step w line (Lines.Goes_up k) = goes_up w k
-step w line (Lines.Comes_down k) = comes_down w line k
+step w line (Lines.OfClient c call) = client_calls w line c (seat w c) call
+step w line (Lines.AsksClient c question) =
+    saying w (Lines.answer_line (Some c) (account w c) (seat w c).noticed question ∷ [])
+step w line (Lines.OfConnection k traffic) = conn_line w line k traffic
+step w line (Lines.OfServer service) = server_line w service
 step w line (Lines.Drain n) = drain w line n
-step w line (Lines.Gone k) = quiet (goes w k)
-step w line Lines.Stop = quiet (stop w w.host)
-step w line Lines.Start = start w w.host
-step w line (Lines.Fuse calls how) = quiet (record w { fuse = Some (record { left = calls; how = how }) })
-step w line Lines.Compact = quiet (compact w w.host)
-step w line (Lines.Limit updates sessions) = quiet (limit w (record { updates = updates; sessions = sessions }))
 step w line Lines.Link = quiet (open_conn w None)
-step w line (Lines.Raw k text) = quiet (raw_at w k text (get w.conns k))
 
 -- the default limits
 abbrev pub first_limits : Limits
