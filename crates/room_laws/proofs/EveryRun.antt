@@ -3,9 +3,11 @@ use Rattle.room_items.proofs.Spells.{trees_again}
 use Rattle.room_steps.proofs.Undoing.{undo_restores}
 use Rattle.room_laws.specs.Accounts.{KeepsSound}
 use Rattle.room_laws.specs.Always.{AlwaysOnce, AlwaysServed, AlwaysShows, AlwaysTaken, AlwaysUndo, AlwaysUndone}
+use Rattle.room_laws.specs.Growth.{LogGrows}
 use Rattle.room_laws.specs.Validity.{ReadableRun, SoundAccounts, ValidRun}
 use Rattle.room_laws.proofs.Always.{always_once, always_served, always_shows, always_taken, always_undo, always_undone}
 use Rattle.room_laws.proofs.EmptyPresence.{empty_fits}
+use Rattle.room_laws.proofs.Growth.{log_grows}
 use Rattle.room_laws.proofs.SoundAccounts.{keeps_sound}
 use Rattle.room_laws.proofs.StateItems.{items_of_valid, trees_valid}
 use Rattle.room_laws.proofs.ValidRuns as valid
@@ -19,7 +21,10 @@ every_log = valid.valid_run every_account items_of_valid
 pub every_sound : SoundAccounts
 every_sound = valid.sound_accounts every_account items_of_valid
 
-readable : ReadableRun
+pub every_growth : LogGrows
+every_growth = log_grows every_account items_of_valid
+
+pub readable : ReadableRun
 readable = valid.readable_run trees_again every_log
 
 pub every_shows : AlwaysShows

@@ -21,6 +21,7 @@ mod Facts
 mod Follows
 mod Frame
 mod Frames
+mod Growth
 mod Histories
 mod HistoryBounds
 mod Joins

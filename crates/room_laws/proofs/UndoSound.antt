@@ -33,14 +33,14 @@ keeps = valid_after keeps_sound keeps_shallow
 
 -- the log: its trees are ordered, and its operations
 
-record Tree (t : Nodes) : Type 0 where
-  formed : IsFormed t
-  sound : IsSoundTree t
+pub record Tree (t : Nodes) : Type 0 where
+  pub formed : IsFormed t
+  pub sound : IsSoundTree t
 
 first_is : (u v : Update) (us vs : List Update) → ◌≡◌ {A = List Update} (u ∷ us) (v ∷ vs) → (u ≡ v) × (us ≡ vs)
 first_is u v us vs e = (cc, cc)
 
-tree_of : (s : State) (es : List Entry) (vs ws : List Update) → IsValidState s → IsValidLog s es → updates_of es ≡ vs ++ ws → Tree (tree_after s.tree vs)
+pub tree_of : (s : State) (es : List Entry) (vs ws : List Update) → IsValidState s → IsValidLog s es → updates_of es ≡ vs ++ ws → Tree (tree_after s.tree vs)
 tree_of s es [] ws h l e = record { formed = h.formed; sound = h.sound }
 tree_of s [] (v ∷ vs) ws h l e = cc
 tree_of s (Join a key name ∷ es) (v ∷ vs) ws h l e = tree_of (after s (Join a key name)) es (v ∷ vs) ws (keeps.entry s (Join a key name) h l.0) l.1 e
@@ -65,7 +65,7 @@ each_back : (us vs : List Update) → EachSound (us ++ vs) → EachSound vs
 each_back [] vs h = h
 each_back (u ∷ us) vs h = each_back us vs h.1
 
-sound-append : (bs cs : List Body) → AreSoundBodies bs → AreSoundBodies cs → AreSoundBodies (bs ++ cs)
+pub sound-append : (bs cs : List Body) → AreSoundBodies bs → AreSoundBodies cs → AreSoundBodies (bs ++ cs)
 sound-append [] cs h k = k
 sound-append (b ∷ bs) cs h k = (h.0, sound-append bs cs h.1 k)
 
@@ -93,7 +93,7 @@ batches_sound (b ∷ bs) h = sound-append b.bodies (all_bodies bs) h.0.sound (ba
 valid_of : (stage : Stage) (bs : List Batch) (o : Option OpenBatch) (h : History) (confirmed : Option Nodes) (t : Nodes) → HasTree stage bs o h confirmed → confirmed ≡ Some t → IsValidTree t
 valid_of stage bs o h confirmed t k e = subst (HasTree stage bs o h) e k
 
-shows_tree : (x : Account) (o : Option Nodes) (t : Nodes) → IsSound x → x.confirmed ≡ o → shown_over x o ≡ Some t → Tree t
+pub shows_tree : (x : Account) (o : Option Nodes) (t : Nodes) → IsSound x → x.confirmed ≡ o → shown_over x o ≡ Some t → Tree t
 shows_tree x None t h e p = cc
 shows_tree x (Some n) t h e p =
     let valid = valid_of x.stage (issued x) x.batch x.history x.confirmed n h.tree e in
@@ -105,11 +105,11 @@ shows_tree x (Some n) t h e p =
 
 -- lines before others
 
-spelled_front : (ls ms : List (ℕ × Line)) → AreSpelled (ls ++ ms) → AreSpelled ls
+pub spelled_front : (ls ms : List (ℕ × Line)) → AreSpelled (ls ++ ms) → AreSpelled ls
 spelled_front [] ms h = tt
 spelled_front (l ∷ ls) ms h = (h.0, spelled_front ls ms h.1)
 
-lines_front : (ls ms : List (ℕ × Line)) → AreLines (ls ++ ms) → AreLines ls
+pub lines_front : (ls ms : List (ℕ × Line)) → AreLines (ls ++ ms) → AreLines ls
 lines_front ls ms h = record { spelled = spelled_front ls ms h.spelled; fewer = omega (arith, h.fewer, length-append ls ms) }
 
 pub run-append : (ls ms : List (ℕ × Line)) (r : Run) → run r (ls ++ ms) ≡ run (run r ls) ms

@@ -4,6 +4,7 @@ pub mod Back
 pub mod Bounds
 pub mod Clocks
 pub mod Core
+pub mod Growth
 pub mod Invariant
 pub mod Laws
 pub mod Ledger

@@ -10,5 +10,5 @@ mod runs;
 pub use accounts::{history_bounded, keeps_clocks, keeps_open, keeps_sound, undoes_alone};
 pub use runs::{
     each_once, each_reversed, each_served, each_shows, each_taken, each_undo, each_undone,
-    report_in_order, sound_accounts, valid_run,
+    log_grows, report_in_order, sound_accounts, valid_run,
 };

@@ -1,5 +1,6 @@
 //! Laws of every run, from each valid opening state and over all lines that a schedule can spell.
 ghost use Rattle.room_laws.specs.Always.{AlwaysOnce, AlwaysServed, AlwaysShows, AlwaysTaken, AlwaysUndo, AlwaysUndone};
+ghost use Rattle.room_laws.specs.Growth.{LogGrows};
 ghost use Rattle.room_laws.specs.Lines.{EachReversed};
 ghost use Rattle.room_laws.specs.Reports.{ReportInOrder};
 ghost use Rattle.room_laws.specs.Validity.{SoundAccounts, ValidRun};
@@ -12,6 +13,12 @@ pub fn report_in_order()
 /// The log of every run is valid: each entry follows the state that those before it lead to.
 pub fn valid_run()
     ensures { ValidRun }
+{}
+
+/// The log only grows, whatever lines follow, and each entry stays what it was. At every moment the server stands where its
+/// log leads: what a recovery finds is the state after a first part of every later log.
+pub fn log_grows()
+    ensures { LogGrows }
 {}
 
 /// The account of every client is sound.
