@@ -154,11 +154,11 @@ front_back : (t s : Nodes) (bs rs cs : List Body) → rs ≡ reverse_all t bs �
 front_back t s bs rs cs e r h = fold-append (fold t bs) rs cs ∙ ap (λ u. fold u cs) (ap (fold (fold t bs)) e ∙ r) ∙ h
 
 -- an undo that was done
-record BackAs (way : calls.Way) (x : Account) (out : calls.Done) : Type 0 where
-  none : x.batch ≡ None
-  entry : List Change
-  is_entry : calls.entry_of way x.history ≡ Some entry
-  is : calls.went_back way x entry ≡ out
+pub record BackAs (way : calls.Way) (x : Account) (out : calls.Done) : Type 0 where
+  pub none : x.batch ≡ None
+  pub entry : List Change
+  pub is_entry : calls.entry_of way x.history ≡ Some entry
+  pub is : calls.went_back way x entry ≡ out
 
 as_presence : (way : calls.Way) (x : Account) (e : List Change) (size : ℕ) (out : calls.Done) → calls.back_presence way x e size ≡ Ok (Some out) → calls.went_back way x e ≡ out
 as_presence way x e size out p = some_is (calls.went_back way x e) out (under (nat_lt _ size) _ (Some (calls.went_back way x e)) (Some out) p)
@@ -175,7 +175,7 @@ as_entry : (way : calls.Way) (x : Account) (o : Option (List Change)) (out : cal
 as_entry way x None out n f p = cc
 as_entry way x (Some e) out n f p = record { none = n; entry = e; is_entry = f; is = as_clocked way x e (calls.entry_bodies e) _ out p }
 
-back_as : (way : calls.Way) (x : Account) (o : Option OpenBatch) (out : calls.Done) → x.batch ≡ o → calls.back_at way x o ≡ Ok (Some out) → BackAs way x out
+pub back_as : (way : calls.Way) (x : Account) (o : Option OpenBatch) (out : calls.Done) → x.batch ≡ o → calls.back_at way x o ≡ Ok (Some out) → BackAs way x out
 back_as way x (Some o) out n p = cc
 back_as way x None out n p = as_entry way x (calls.entry_of way x.history) out n refl p
 
@@ -303,7 +303,7 @@ undo_leads s k x out h p =
 
 -- redoing
 
-reversal_is : (t : Nodes) (me : List (List ℕ × Value)) (cs : List Change) → calls.entry_bodies (calls.entry_reversal t me cs) ≡ reverse_all t (calls.entry_bodies cs)
+pub reversal_is : (t : Nodes) (me : List (List ℕ × Value)) (cs : List Change) → calls.entry_bodies (calls.entry_reversal t me cs) ≡ reverse_all t (calls.entry_bodies cs)
 reversal_is t me [] = refl
 reversal_is t me (OpChange b ∷ cs) = entry-append (calls.entry_reversal (step t b) me cs) (map calls.op_change (reverse t b))
     ∙ ap (λ z. z ++ calls.entry_bodies (map calls.op_change (reverse t b))) (reversal_is (step t b) me cs)

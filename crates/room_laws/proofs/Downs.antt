@@ -31,7 +31,7 @@ use Rattle.room_laws.proofs.Takes.{turned_still}
 use Rattle.room_laws.proofs.Messages.{takes}
 use Rattle.room_laws.proofs.OwnLines.{keeps_saying, cut_off_at}
 use Rattle.room_laws.proofs.Strange.{keeps_strange}
-use Rattle.room_laws.proofs.Facts.{some_is, none_some, true_false}
+use Rattle.room_laws.proofs.Facts.{some_is, true_false}
 
 no_cons : {A : Type 0} (x : A) (xs : List A) → x ∷ xs ≡ [] → ⊥
 no_cons x xs e = cc

@@ -1,13 +1,12 @@
 -- The log only grows.
 use Rattle.std.proofs.Common.{◌≡◌, ℕ, ◌+◌, ◌-◌, List, [], ◌∷◌, ◌++◌, length, take, refl, sym, ap, ◌∙◌, subst, arith, append-nil, append_assoc}
-use Rattle.room_nodes.specs.Steps.{fold}
-use Rattle.room_log.specs.Log.{State, Update, Entry, Join, Updated, after, state_after, tree_after, tree_at, updates_of}
+use Rattle.room_log.specs.Log.{State, Entry, Join, Updated, after, state_after, tree_after, tree_at, updates_of}
 use Rattle.room_log.specs.Follows.{IsValidLog}
 use Rattle.room_model.specs.Lines.{Line}
 use Rattle.room_model.specs.World.{step}
 use Rattle.room_model.specs.Run.{Run, run, line, opened}
 use Rattle.room_laws.specs.Accounts.{KeepsSound}
-use Rattle.room_laws.specs.Growth.{GrowsTo, LogGrows, state_of}
+use Rattle.room_laws.specs.Growth.{LogGrows, state_of}
 use Rattle.room_laws.specs.Validity.{ItemsOfValid}
 use Rattle.room_laws.proofs.RunSteps.{updates_of-append}
 use Rattle.room_laws.proofs.SoundLines.{state_after-append}

@@ -3,6 +3,7 @@ mod Advance
 mod Alone
 mod Always
 mod Answering
+mod Bare
 mod Batches
 mod Calls
 mod Calm
@@ -22,8 +23,10 @@ mod Follows
 mod Frame
 mod Frames
 mod Growth
+mod Happens
 mod Histories
 mod HistoryBounds
+mod IssuedSound
 mod Joins
 mod Keep
 mod Leaving
@@ -34,6 +37,8 @@ mod Maps
 mod Matches
 mod Messages
 mod Mixed
+mod Moments
+mod Moves
 mod Open
 mod Ops
 mod Outcomes

@@ -52,7 +52,7 @@ shown_at x (Some c) t e = ap Some (fold-append c (all_bodies (issued x)) (bodies
 pub shown_is : (t : Nodes) (x : Account) → base x ≡ Some t → shown x ≡ Some (fold t (bodies_in x.batch))
 shown_is t x e = shown_at x x.confirmed t e
 
-base_at : (x : Account) (c : Option Nodes) (t : Nodes) → bodies_in x.batch ≡ [] → shown_over x c ≡ Some t → base_over x c ≡ Some t
+pub base_at : (x : Account) (c : Option Nodes) (t : Nodes) → bodies_in x.batch ≡ [] → shown_over x c ≡ Some t → base_over x c ≡ Some t
 base_at x None t e f = cc
 base_at x (Some c) t e f = ap (λ bs. Some (fold c bs)) (sym (append-nil (all_bodies (issued x))) ∙ ap (λ bs. all_bodies (issued x) ++ bs) (sym e)) ∙ f
 
@@ -163,19 +163,19 @@ event_on : (x y : Account) (e : Json) (b : Bool) (fault : calls.SayFault) (size 
 event_on x y e true fault size p = cc
 event_on x y e false fault size p = subst (Same x) (under (nat_lt _ size) _ (record x { events = x.events ++ e ∷ [] }) y p) (record { confirmed = refl; issued = refl; batch = refl })
 
-event_at : (x y : Account) (e : Json) (b c : Bool) (f g : calls.SayFault) (size : ℕ) → cond b (Err f) (cond c (Err g) (calls.event_sized x e size)) ≡ Ok y → Same x y
+pub event_at : (x y : Account) (e : Json) (b c : Bool) (f g : calls.SayFault) (size : ℕ) → cond b (Err f) (cond c (Err g) (calls.event_sized x e size)) ≡ Ok y → Same x y
 event_at x y e true c f g size p = cc
 event_at x y e false c f g size p = event_on x y e c g size p
 
 -- sending
 
-flushed_same : (x : Account) (g : Stage) → x.stage ≡ g → Same x (calls.flushed x)
+pub flushed_same : (x : Account) (g : Stage) → x.stage ≡ g → Same x (calls.flushed x)
 flushed_same x Idle e = rw e (record { confirmed = refl; issued = refl; batch = refl })
 flushed_same x Dialled e = rw e (record { confirmed = refl; issued = refl; batch = refl })
 flushed_same x Connected e = rw e (record { confirmed = refl; issued = refl; batch = refl })
 flushed_same x Synced e = rw e (record { confirmed = refl; issued = append-nil (issued x); batch = refl })
 
-resent_same : (x : Account) (g : Stage) → x.stage ≡ g → Same x (calls.resent x)
+pub resent_same : (x : Account) (g : Stage) → x.stage ≡ g → Same x (calls.resent x)
 resent_same x Idle e = rw e (record { confirmed = refl; issued = refl; batch = refl })
 resent_same x Dialled e = rw e (record { confirmed = refl; issued = refl; batch = refl })
 resent_same x Connected e = rw e (record { confirmed = refl; issued = refl; batch = refl })

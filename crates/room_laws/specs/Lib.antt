@@ -4,11 +4,13 @@ pub mod Back
 pub mod Bounds
 pub mod Clocks
 pub mod Core
+pub mod Events
 pub mod Growth
 pub mod Invariant
 pub mod Laws
 pub mod Ledger
-pub mod Lines
+pub mod Moments
+pub mod Moves
 pub mod Open
 pub mod Queues
 pub mod Reports
