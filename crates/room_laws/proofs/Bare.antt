@@ -8,6 +8,7 @@ use Rattle.room_nodes.specs.declared.nodes.Change.{Change}
 use Rattle.room_nodes.specs.declared.nodes.Op.{Op}
 use Rattle.room_nodes.specs.Shape.{Nodes}
 use Rattle.room_items.specs.Items.{tree_in}
+use Rattle.room_msg.specs.declared.messages.Resume.{Resume}
 use Rattle.room_msg.specs.declared.messages.ServerMsg.{ServerMsg}
 use Rattle.room_msg.specs.declared.messages.ServerMsg.TheVariants as server
 use Rattle.room_log.specs.Log.{State, bodies_of}
@@ -21,10 +22,10 @@ use Rattle.room_model.specs.World.{Seat, seat_in, account}
 use Rattle.room_model.specs.Run.{run, opened}
 use Rattle.room_laws.specs.Events.{Event, Called, Came, Ended, happened, happen, events}
 use Rattle.room_laws.proofs.Alone.{back_as}
-use Rattle.room_laws.proofs.Facts.{ok_is, under}
+use Rattle.room_laws.proofs.Facts.{ok_is, over, under}
 use Rattle.room_laws.proofs.Happens.{Keeps, keeps_event}
 use Rattle.room_laws.proofs.Maps.{get_none}
-use Rattle.room_laws.proofs.Open.{edit_as, entry-append, no_bodies, comes_same, flushed_same, resent_same, event_at}
+use Rattle.room_laws.proofs.Open.{edit_as, entry-append, no_bodies, flushed_same, resent_same, event_at}
 use Rattle.room_laws.proofs.Seats.{follows_events}
 
 abbrev pub Bare : Option OpenBatch → Type 0
@@ -39,23 +40,24 @@ stays x y e h = subst Bare (sym e) h
 
 -- a message leaves the open batch
 
-through : {A E : Type 0} (b : Bool) (e : E) (r : Result A E) (y : A) → cond b (Err e) r ≡ Ok y → r ≡ Ok y
+pub through : {A E : Type 0} (b : Bool) (e : E) (r : Result A E) (y : A) → cond b (Err e) r ≡ Ok y → r ≡ Ok y
 through true e r y p = cc
 through false e r y p = p
 
-reaches : {A E : Type 0} (b : Bool) (e : E) (r : Result A E) (y : A) → cond b r (Err e) ≡ Ok y → r ≡ Ok y
+pub reaches : {A E : Type 0} (b : Bool) (e : E) (r : Result A E) (y : A) → cond b r (Err e) ≡ Ok y → r ≡ Ok y
 reaches true e r y p = p
 reaches false e r y p = cc
 
-abbrev Leaves : Account → Comes.Took → Type 0
-Leaves x out = out.account.batch ≡ x.batch
+pub record Leaves (x : Account) (out : Comes.Took) : Type 0 where
+  pub batch : out.account.batch ≡ x.batch
+  pub history : out.account.history ≡ x.history
 
 as_took : (x : Account) (a out : Comes.Took) → ◌≡◌ {A = Result Comes.Took Comes.FrameFault} (Ok a) (Ok out) → Leaves x a → Leaves x out
 as_took x a out p h = subst (Leaves x) (ok_is a out p) h
 
 load_leaves : (x : Account) (seq last : ℕ) (t : Nodes) (o : Option (ℕ × ℕ)) (out : Comes.Took) → Comes.load_at x seq last t o ≡ Ok out → Leaves x out
 load_leaves x seq last t (Some f) out p = cc
-load_leaves x seq last t None out p = as_took x (Comes.loaded x seq last t) out p refl
+load_leaves x seq last t None out p = as_took x (Comes.loaded x seq last t) out p (record { batch = refl; history = refl })
 
 tree_leaves : (x : Account) (seq last : ℕ) (o : Option Nodes) (out : Comes.Took) → Comes.load x seq last o ≡ Ok out → Leaves x out
 tree_leaves x seq last None out p = cc
@@ -63,12 +65,12 @@ tree_leaves x seq last (Some t) out p = load_leaves x seq last t (Comes.state_fa
 
 part_leaves : (x : Account) (seq last : ℕ) (items : List Value) (more : Bool) (o : Option (ℕ × ℕ)) (out : Comes.Took) → Comes.part_comes x seq last items more o ≡ Ok out → Leaves x out
 part_leaves x seq last items more (Some f) out p = cc
-part_leaves x seq last items true None out p = as_took x (Comes.keeps_part x seq last items) out p refl
+part_leaves x seq last items true None out p = as_took x (Comes.keeps_part x seq last items) out p (record { batch = refl; history = refl })
 part_leaves x seq last items false None out p = tree_leaves x seq last (tree_in (Comes.parts_items x.parts ++ items)) out p
 
 told_leaves : (x : Account) (os : List Op) (t : Nodes) (r : Result ℕ (ℕ × ℕ)) (out : Comes.Took) → Comes.update_told x os t r ≡ Ok out → Leaves x out
 told_leaves x os t (Err f) out p = cc
-told_leaves x os t (Ok told) out p = as_took x _ out p refl
+told_leaves x os t (Ok told) out p = as_took x _ out p (record { batch = refl; history = refl })
 
 on_leaves : (x : Account) (os : List Op) (o : Option Nodes) (out : Comes.Took) → Comes.update_on x os o ≡ Ok out → Leaves x out
 on_leaves x os None out p = cc
@@ -84,12 +86,26 @@ update_leaves x seq os Dialled out p = cc
 update_leaves x seq os Connected out p = cc
 update_leaves x seq os Synced out p = synced_leaves x seq os x.parts out p
 
-comes_leaves : (x : Account) (m : ServerMsg) (out : Comes.Took) → Comes.comes x m ≡ Ok out → Leaves x out
-comes_leaves x (server.Presence a target patch) out p = (comes_same x (server.Presence a target patch) out refl p).batch
-comes_leaves x (server.Joined a) out p = (comes_same x (server.Joined a) out refl p).batch
-comes_leaves x (server.Left a) out p = (comes_same x (server.Left a) out refl p).batch
-comes_leaves x (server.Broadcast a e) out p = (comes_same x (server.Broadcast a e) out refl p).batch
-comes_leaves x (server.RoomState a key users) out p = (comes_same x (server.RoomState a key users) out refl p).batch
+once_leaves : (x : Account) (kind : ℕ) (a out : Comes.Took) → Leaves x a → Comes.once_on x kind a ≡ Ok out → Leaves x out
+once_leaves x kind a out h p = subst (Leaves x) (over (is_on x.stage) _ a out p) h
+
+named_leaves : (x : Account) (a key : ℕ) (o : Option Resume) (out : Comes.Took) → Comes.welcomed_as x a key o ≡ Ok out → Leaves x out
+named_leaves x a key None out p = as_took x (Comes.welcomed x a key) out p (record { batch = refl; history = refl })
+named_leaves x a key (Some w) out p = subst (Leaves x) (over (w.actor == a) _ (Comes.welcomed x a key) out p) (record { batch = refl; history = refl })
+
+room_leaves : (x : Account) (a key : ℕ) (g : Stage) (out : Comes.Took) → Comes.room_comes x a key g ≡ Ok out → Leaves x out
+room_leaves x a key Dialled out p = named_leaves x a key x.session out p
+room_leaves x a key Idle out p = cc
+room_leaves x a key Connected out p = cc
+room_leaves x a key Synced out p = cc
+
+pub comes_leaves : (x : Account) (m : ServerMsg) (out : Comes.Took) → Comes.comes x m ≡ Ok out → Leaves x out
+comes_leaves x (server.Presence a None patch) out p = once_leaves x 100 (Comes.took (Comes.presence_taken x a None patch)) out (record { batch = refl; history = refl }) p
+comes_leaves x (server.Presence a (Some target) patch) out p = once_leaves x 100 (Comes.took (Comes.presence_taken x a (Some target) patch)) out (record { batch = refl; history = refl }) p
+comes_leaves x (server.Joined a) out p = once_leaves x 101 _ out (record { batch = refl; history = refl }) p
+comes_leaves x (server.Left a) out p = once_leaves x 102 _ out (record { batch = refl; history = refl }) p
+comes_leaves x (server.Broadcast a e) out p = once_leaves x 103 _ out (record { batch = refl; history = refl }) p
+comes_leaves x (server.RoomState a key users) out p = room_leaves x a key x.stage out p
 comes_leaves x (server.State seq last items more) out p =
     part_leaves x seq last items more (Comes.other_parts x.parts seq last) out (through (not (is_on x.stage)) _ (Comes.part_comes x seq last items more (Comes.other_parts x.parts seq last)) out p)
 comes_leaves x (server.Update seq os) out p = update_leaves x seq os x.stage out p
@@ -143,7 +159,7 @@ keeps_bare = record {
   resent = λ x h. stays x (calls.resent x) (resent_same x x.stage refl).batch h;
   lost = λ x h. h;
   dialled = λ x h. h;
-  comes = λ x m out a h p. stays x out.account (comes_leaves x m out p) h;
+  comes = λ x m out a h p. stays x out.account (comes_leaves x m out p).batch h;
 }
 
 event_bare : (x : Account) (e : Event) → IsBare x → IsBare (happened x e)

@@ -7,7 +7,7 @@ use Rattle.room_model.specs.Account.{Account}
 use Rattle.room_model.specs.Calls as calls
 use Rattle.room_model.specs.Lines as lines
 use Rattle.room_model.specs.World
-use Rattle.room_model.specs.World.{seat, seat_in}
+use Rattle.room_model.specs.World.{seat}
 use Rattle.room_model.specs.Run.{Run, with_step}
 use Rattle.room_laws.specs.Core.{core}
 use Rattle.room_laws.specs.Invariant

@@ -14,7 +14,7 @@ use Rattle.room_model.specs.Comes
 use Rattle.room_model.specs.Server.{Down, Up, Pong, Message, Closed}
 use Rattle.room_model.specs.Lines as lines
 use Rattle.room_model.specs.World
-use Rattle.room_model.specs.World.{seat, seat_in, account}
+use Rattle.room_model.specs.World.{seat, seat_in}
 use Rattle.room_model.specs.Run
 use Rattle.room_model.specs.Run.{Run as ARun, with_step, all_given, IsUndisturbed}
 use Rattle.room_laws.specs.Core.{Core, core, actor}
@@ -32,6 +32,7 @@ use Rattle.room_laws.proofs.Messages.{takes}
 use Rattle.room_laws.proofs.OwnLines.{keeps_saying, cut_off_at}
 use Rattle.room_laws.proofs.Strange.{keeps_strange}
 use Rattle.room_laws.proofs.Facts.{some_is, true_false}
+use Rattle.room_laws.proofs.Single.{one_comes}
 
 no_cons : {A : Type 0} (x : A) (xs : List A) → x ∷ xs ≡ [] → ⊥
 no_cons x xs e = cc
@@ -117,7 +118,7 @@ module _ (s : State) (r : ARun) (number c k : ℕ) (q : World.Conn) (m : Down) (
       (b, f u (held_here b) (ups_here b)))
 
   message_taken : (msg : ServerMsg) → m ≡ Message msg → (res : Result Comes.Took Comes.FrameFault) → Comes.comes p.account msg ≡ res
-      → Invariant.Inv s (with_step r (World.frame_taken w number c k p (Comes.took_next (Comes.took p.account) res)))
+      → Invariant.Inv s (with_step r (World.frame_taken w number c k p (Comes.or_lost p.account res)))
   message_taken msg e (Err fault) i = lost (lines.refused_line number (lines.frame_fault_words fault) ∷ [])
   message_taken msg e (Ok out) i = keeps_on (record { account = out.account; present = p.present; noticed = out.notices }) (map World.frame_up out.replies) (lines.event_lines (Some c) out.events) present
       (comes_stays p.account msg out i)
@@ -134,7 +135,7 @@ module _ (s : State) (r : ARun) (number c k : ℕ) (q : World.Conn) (m : Down) (
   client_takes_at Pong e = keeps_on (record { account = p.account; present = p.present; noticed = [] }) [] [] present (inl refl)
       (λ u h v. turned_still s (updates_of r.log) (Invariant.sessions r) r.given c k p.account (Invariant.issued_by r c) m ms (Invariant.link r.world k) (Invariant.conn r.world k).up h v []
       (subst (λ (x : Down). Says s (h.seated).who (Invariant.place (core p.account) h.done h.coming) x (h.seated).waits.next) e (h.seated).waits.says) (inl refl))
-  client_takes_at (Message msg) e = message_taken msg e (Comes.comes p.account msg) refl
+  client_takes_at (Message msg) e = subst (λ res. Invariant.Inv s (with_step r (World.frame_taken w number c k p res))) (sym (one_comes p.account msg)) (message_taken msg e (Comes.comes p.account msg) refl)
   client_takes_at (Closed code text) e = lost (lines.closed_line k code text ∷ [])
 
   pub client_takes : Invariant.Inv s (with_step r (World.client_takes w number c k p m))

@@ -2,10 +2,12 @@
 use Rattle.room_items.proofs.Spells.{trees_again}
 use Rattle.room_steps.proofs.Undoing.{undo_restores}
 use Rattle.room_laws.specs.Accounts.{KeepsSound}
+use Rattle.room_laws.specs.Alone.{AlwaysAlone}
 use Rattle.room_laws.specs.Always.{AlwaysOnce, AlwaysServed, AlwaysShows, AlwaysTaken, AlwaysUndo, AlwaysUndone}
 use Rattle.room_laws.specs.Growth.{LogGrows}
 use Rattle.room_laws.specs.Moments.{AtEveryMoment}
 use Rattle.room_laws.specs.Validity.{ReadableRun, SoundAccounts, ValidRun}
+use Rattle.room_laws.proofs.AloneRuns.{always_alone}
 use Rattle.room_laws.proofs.Always.{always_once, always_served, always_shows, always_taken}
 use Rattle.room_laws.proofs.EmptyPresence.{empty_fits}
 use Rattle.room_laws.proofs.Growth.{log_grows}
@@ -50,3 +52,6 @@ every_undo = always_undo readable every_log every_sound every_account undo_resto
 
 pub every_moment : AtEveryMoment
 every_moment = at_every_moment readable
+
+pub every_alone : AlwaysAlone
+every_alone = always_alone every_sound

@@ -5,6 +5,7 @@ use Rattle.std.specs.FinMap.{get, entries}
 use Rattle.room_nodes.specs.declared.nodes.Body.{Body}
 use Rattle.room_nodes.specs.declared.nodes.Change.{Change}
 use Rattle.room_nodes.specs.Shape.{Nodes}
+use Rattle.room_msg.specs.declared.messages.ServerFrame.TheVariants.{Msgs}
 use Rattle.room_log.specs.Log.{State, bodies_of}
 use Rattle.room_log.specs.Follows.{IsValidState}
 use Rattle.room_model.specs.Account.{Account, Batch, OpenBatch, shown}
@@ -135,7 +136,7 @@ frame_issues w n c k p (Ok out) = tt
 
 takes : (w : World) (n c k : ℕ) (p : World.Seat) (m : Down) → Each (World.client_takes w n c k p m).issues
 takes w n c k p Pong = tt
-takes w n c k p (Message m) = frame_issues w n c k p (Comes.took_next (Comes.took p.account) (Comes.comes p.account m))
+takes w n c k p (Message m) = frame_issues w n c k p (Comes.frame_comes p.account (Msgs (m ∷ [])))
 takes w n c k p (Closed code text) = tt
 
 link_takes : (w : World) (k : ℕ) (m : Down) → Each (World.link_takes w k m).issues
@@ -183,15 +184,12 @@ drain_step w n (Some k) down = goes_up w k (get w.conns k)
 drain_step w n None (Some k) = comes_down w n k (get w.conns k)
 drain_step w n None None = tt
 
-drain_from : (m n : ℕ) (a : Stepped) → Each a.issues → Each (World.drain_from m n a).issues
-drain_from zero n a h = h
-drain_from (suc m) n a h =
-    let out = World.or_quiet a.world (World.drain_next a.world n) in
-    drain_from m n (World.then_stepped a out) (each_append a.issues out.issues h (drain_step a.world n (World.least World.has_up (entries a.world.conns)) (World.least World.has_down (entries a.world.conns))))
-
-drains : (w : World) (n m : ℕ) → Each (World.drain w n m).issues
+drains : (n m : ℕ) (w : World) → Each (World.drain w n m).issues
 unfolding World.drain
-drains w n m = drain_from m n (World.quiet w) tt
+drains n zero w = tt
+drains n (suc m) w =
+    let out = World.drain_once w n in
+    each_append out.issues (World.drain out.world n m).issues (drain_step w n (World.least World.has_up (entries w.conns)) (World.least World.has_down (entries w.conns))) (drains n m out.world)
 
 module _ (keep : KeepsSound) where
   step_issues : (w : World) (n : ℕ) (l : Line) → ((c : ℕ) → IsSound (account w c)) → IsLine l → Each (World.step w n l).issues
@@ -199,7 +197,7 @@ module _ (keep : KeepsSound) where
   step_issues w n (lines.AsksClient c question) h i = tt
   step_issues w n (lines.OfConnection k traffic) h i = conn_issues w n k traffic
   step_issues w n (lines.OfServer service) h i = server_issues w service
-  step_issues w n (lines.Drain m) h i = drains w n m
+  step_issues w n (lines.Drain m) h i = drains n m w
   step_issues w n lines.Link h i = tt
 
   module _ (accounts : SoundAccounts) (s : State) (valid : IsValidState s) where

@@ -1,6 +1,8 @@
+mod Acting
 mod Acts
 mod Advance
 mod Alone
+mod AloneRuns
 mod Always
 mod Answering
 mod Bare
@@ -44,6 +46,7 @@ mod Ops
 mod Outcomes
 mod OwnFrames
 mod OwnLines
+mod OwnUpdate
 mod Owns
 mod Patches
 mod Popped
@@ -62,6 +65,7 @@ mod Served
 mod Serves
 mod Sessions
 mod Settled
+mod Single
 mod SoundAccounts
 mod SoundCalls
 mod SoundComes

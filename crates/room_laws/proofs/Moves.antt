@@ -14,49 +14,40 @@ use Rattle.room_laws.proofs.UndoSound.{run-append}
 step_after : (r : Run) (a b : Stepped) → with_step (with_step r a) b ≡ with_step r (World.then_stepped a b)
 step_after r a b = rw (append_assoc r.log a.entries b.entries, append_assoc r.issued a.issues b.issues, append_assoc r.given a.given b.given) refl
 
-nothing_after : (a : Stepped) → World.then_stepped a (World.quiet a.world) ≡ a
-nothing_after a = rw (append-nil a.lines, append-nil a.entries, append-nil a.issues, append-nil a.given) refl
-
--- where nothing waits a drain does nothing
-still : (n number : ℕ) (a : Stepped) → World.drain_next a.world number ≡ None → World.drain_from n number a ≡ a
-still zero number a e = refl
-still (suc n) number a e =
-    let same : World.then_stepped a (World.or_quiet a.world (World.drain_next a.world number)) ≡ a =
-    ap (λ o. World.then_stepped a (World.or_quiet a.world o)) e ∙ nothing_after a in
-    ap (World.drain_from n number) same ∙ still n number a e
-
-module _ (r : Run) (number n : ℕ) (a : Stepped)
-    (rest : (b : Stepped) → run (with_step r b) (move_lines number (moves n b.world number)) ≡ with_step r (World.drain_from n number b)) where
-  next_is : (up down : Option ℕ) → World.least World.has_up (entries a.world.conns) ≡ up → World.least World.has_down (entries a.world.conns) ≡ down →
-      run (with_step r a) (move_lines number (where_some (move up down) (λ m. m ∷ moves n (World.conn_line a.world number m.0 m.1).world number)))
-      ≡ with_step r (World.drain_from n number (World.then_stepped a (World.or_quiet a.world (World.drain_step a.world number up down))))
-  next_is (Some k) down e f =
-      let out = World.goes_up a.world k in
-      ap (λ z. run z (move_lines number (moves n out.world number))) (step_after r a out) ∙ rest (World.then_stepped a out)
-  next_is None (Some k) e f =
-      let out = World.comes_down a.world number k in
-      ap (λ z. run z (move_lines number (moves n out.world number))) (step_after r a out) ∙ rest (World.then_stepped a out)
-  next_is None None e f =
-      let none : World.drain_next a.world number ≡ None = ap (λ o. World.drain_step a.world number o (World.least World.has_down (entries a.world.conns))) e ∙ ap (World.drain_step a.world number None) f in
-      ap (with_step r) (sym (still n number a none) ∙ ap (World.drain_from n number) (sym (nothing_after a)))
-
-drain_is : (n number : ℕ) (r : Run) (a : Stepped) → run (with_step r a) (move_lines number (moves n a.world number)) ≡ with_step r (World.drain_from n number a)
-drain_is zero number r a = refl
-drain_is (suc n) number r a = next_is r number n a (λ b. drain_is n number r b) (World.least World.has_up (entries a.world.conns)) (World.least World.has_down (entries a.world.conns)) refl refl
-
 nothing_first : (r : Run) → with_step r (World.quiet r.world) ≡ r
 nothing_first r = rw (append-nil r.log, append-nil r.issued, append-nil r.given) refl
 
-drained : (r : Run) (number n : ℕ) → run r (move_lines number (moves n r.world number)) ≡ line r number (lines.Drain n)
+-- where nothing waits a drain does nothing
+still : (w : World.World) (number n : ℕ) → World.drain_next w number ≡ None → World.drain w number n ≡ World.quiet w
 unfolding World.drain
-drained r number n = ap (λ z. run z (move_lines number (moves n r.world number))) (sym (nothing_first r)) ∙ drain_is n number r (World.quiet r.world)
+still w number zero e = refl
+still w number (suc n) e = ap (λ o. World.then_stepped (World.or_quiet w o) (World.drain (World.or_quiet w o).world number n)) e ∙ still w number n e
+
+module _ (r : Run) (number n : ℕ) (rest : (z : Run) → run z (move_lines number (moves n z.world number)) ≡ with_step z (World.drain z.world number n)) where
+  next_is : (up down : Option ℕ) → World.least World.has_up (entries r.world.conns) ≡ up → World.least World.has_down (entries r.world.conns) ≡ down →
+      run r (move_lines number (where_some (move up down) (λ m. m ∷ moves n (World.conn_line r.world number m.0 m.1).world number)))
+      ≡ with_step r (World.then_stepped (World.or_quiet r.world (World.drain_step r.world number up down)) (World.drain (World.or_quiet r.world (World.drain_step r.world number up down)).world number n))
+  next_is (Some k) down e f =
+      let out = World.goes_up r.world k in
+      rest (with_step r out) ∙ step_after r out (World.drain out.world number n)
+  next_is None (Some k) e f =
+      let out = World.comes_down r.world number k in
+      rest (with_step r out) ∙ step_after r out (World.drain out.world number n)
+  next_is None None e f =
+      let none : World.drain_next r.world number ≡ None = ap (λ o. World.drain_step r.world number o (World.least World.has_down (entries r.world.conns))) e ∙ ap (World.drain_step r.world number None) f in
+      sym (nothing_first r) ∙ ap (with_step r) (sym (still r.world number n none))
+
+drained : (number n : ℕ) (r : Run) → run r (move_lines number (moves n r.world number)) ≡ line r number (lines.Drain n)
+unfolding World.drain
+drained number zero r = sym (nothing_first r)
+drained number (suc n) r = next_is r number n (drained number n) (World.least World.has_up (entries r.world.conns)) (World.least World.has_down (entries r.world.conns)) refl refl
 
 single_is : (r : Run) (number : ℕ) (l : Line) → run r (single r.world number l) ≡ line r number l
 single_is r number (lines.OfClient c call) = refl
 single_is r number (lines.AsksClient c question) = refl
 single_is r number (lines.OfConnection k traffic) = refl
 single_is r number (lines.OfServer service) = refl
-single_is r number (lines.Drain n) = drained r number n
+single_is r number (lines.Drain n) = drained number n r
 single_is r number lines.Link = refl
 
 pub runs_singly : RunsSingly

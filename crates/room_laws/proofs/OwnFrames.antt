@@ -27,6 +27,7 @@ use Rattle.room_laws.proofs.Commits.{Next, session_same}
 use Rattle.room_laws.proofs.Answering.{Kept, keeps_shut}
 use Rattle.room_laws.proofs.Outcomes.{commits_kept}
 use Rattle.room_laws.proofs.Serves.{talk_kept, ups_of, tail_talk}
+use Rattle.room_laws.proofs.Acting.{act_from, taken_from}
 
 module _ (s : State) (r : Run) (v : Server.Server) (k : ℕ) (q : Conn) (u : Up) (us : List Up) (st : Invariant.Inv s r) (there : get r.world.conns k ≡ Some q) (first : q.up ≡ u ∷ us) (runs : r.world.host ≡ Running v)
     (l : Link) (attached : get v.links k ≡ Some l) (a : ℕ) (named : l.actor ≡ Some a) where
@@ -93,11 +94,11 @@ module _ (s : State) (r : Run) (v : Server.Server) (k : ℕ) (q : Conn) (u : Up)
         same : Takes n ≡ Takes m → n ≡ m
         same i = cc
 
-    pub serve_takes : (d : ℕ) (o : (Invariant.conn r.world k).owner ≡ Some d) (j : IsUndisturbed r d) → Server.serve v k u ≡ Server.taken v k l a (client.Update os ∷ []) (take v.state a os)
+    pub serve_takes : (d : ℕ) (o : (Invariant.conn r.world k).owner ≡ Some d) (j : IsUndisturbed r d) → Server.serve v k u ≡ taken_from v k l a (client.Update os ∷ []) (take v.state a os)
     serve_takes d o j =
         let h = order_of d o j in
         let ops : os ≡ ops_from a h.batch.first h.batch.bodies = h.ops ∙ ap (λ i. ops_from i h.batch.first h.batch.bodies) (sym h.mine) in
-        ap (Server.serve v k) e ∙ subst (λ (ps : List Op). Server.serve v k (Ok (frame.Msgs (client.Update ps ∷ []))) ≡ Server.taken v k l a (client.Update ps ∷ []) (take v.state a ps)) (sym ops)
+        ap (Server.serve v k) e ∙ subst (λ (ps : List Op). Server.serve v k (Ok (frame.Msgs (client.Update ps ∷ []))) ≡ taken_from v k l a (client.Update ps ∷ []) (take v.state a ps)) (sym ops)
         (updates v k a h.batch.first h.batch.bodies l attached named free)
 
     -- the log has it already
@@ -110,7 +111,7 @@ module _ (s : State) (r : Run) (v : Server.Server) (k : ℕ) (q : Conn) (u : Up)
         (outcome_of d o j (st.client d j)).outcome
 
     old_kept : (d : ℕ) → (Invariant.conn r.world k).owner ≡ Some d → IsUndisturbed r d → take v.state a os ≡ Nothing → KeptHere (Server.serve v k u)
-    old_kept d o j f = subst KeptHere (sym (serve_takes d o j ∙ ap (Server.taken v k l a (client.Update os ∷ [])) f))
+    old_kept d o j f = subst KeptHere (sym (serve_takes d o j ∙ ap (taken_from v k l a (client.Update os ∷ [])) f))
         (talk_kept s r v k q u us st there first runs l attached a (client.Update os ∷ []) named (old_left f))
 
     -- or it is the next batch
@@ -155,11 +156,11 @@ module _ (s : State) (r : Run) (v : Server.Server) (k : ℕ) (q : Conn) (u : Up)
       pub next_kept : (d : ℕ) → (Invariant.conn r.world k).owner ≡ Some d → IsUndisturbed r d → n.first ≡ x.last + 1 → 0 < length n.bodies
           → ((Server.serve v k u).entry ≡ Some (Updated n) → tree_in (items_of (updated v.state n).tree) ≡ Some (updated v.state n).tree) → KeptHere (Server.serve v k u)
       next_kept d o j begins some spelled =
-          let answer = serve_takes d o j ∙ ap (Server.taken v k l a (client.Update os ∷ [])) takes in
+          let answer = serve_takes d o j ∙ ap (taken_from v k l a (client.Update os ∷ [])) takes in
           subst KeptHere (sym answer) (by_full (nat_le v.limits.updates v.state.count) answer)
         where
-          by_full : (b : Bool) → Server.serve v k u ≡ cond b (Server.shut v k l 4406 (codes "room full " ++ decimal v.state.count)) (Server.act_all (Server.nothing v) k a (Some n) (client.Update os ∷ []))
-              → KeptHere (cond b (Server.shut v k l 4406 (codes "room full " ++ decimal v.state.count)) (Server.act_all (Server.nothing v) k a (Some n) (client.Update os ∷ [])))
+          by_full : (b : Bool) → Server.serve v k u ≡ cond b (Server.shut v k l 4406 (codes "room full " ++ decimal v.state.count)) (act_from (Server.nothing v) k a (Some n) (client.Update os ∷ []))
+              → KeptHere (cond b (Server.shut v k l 4406 (codes "room full " ++ decimal v.state.count)) (act_from (Server.nothing v) k a (Some n) (client.Update os ∷ [])))
           by_full true answer = keeps_shut s r v k q u us st there first runs l 4406 (codes "room full " ++ decimal v.state.count) attached
           by_full false answer = commits_kept s r v k q u us st there first runs l n x attached (named ∙ ap Some (sym actor_is)) (ap (session_of v.state.sessions) actor_is ∙ known) begins some (spelled (ap (λ (z : Served). z.entry) answer)) next_is next_left
 

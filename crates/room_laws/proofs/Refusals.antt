@@ -13,6 +13,7 @@ use Rattle.room_laws.specs.Core.{core, actor}
 use Rattle.room_laws.specs.Invariant
 use Rattle.room_laws.proofs.Messages.{takes}
 use Rattle.room_laws.proofs.Whole.{stands}
+use Rattle.room_laws.proofs.Single.{one_comes}
 
 err_ok : {A B : Type 0} (a : A) (b : B) → ◌≡◌ {A = Result A B} (Err b) (Ok a) → ⊥
 err_ok a b e = cc
@@ -27,7 +28,7 @@ module _ (s : State) (r : Run) (c k : ℕ) (m : ServerMsg) (ms : List Down) (st 
   ups = subst (λ (o : Option ℕ). Invariant.Ups (o ≡ Some k) (account r.world c).session (Invariant.tried (core (account r.world c))) (Invariant.issued_by r c) (last_of (Invariant.sessions r) (actor (core (account r.world c)))) (Invariant.link r.world k) (Invariant.conn r.world k).up)
       present (st.ups c k (st.shape.present c k present).owner calm)
 
-  by_answer : (res : Result Comes.Took Comes.FrameFault) → Comes.comes (account r.world c) m ≡ res → IsOk (Comes.took_next (Comes.took (account r.world c)) res)
+  by_answer : (res : Result Comes.Took Comes.FrameFault) → Comes.comes (account r.world c) m ≡ res → IsOk (Comes.or_lost (account r.world c) res)
   by_answer (Ok out) e = refl
   by_answer (Err fault) e =
       let t = takes s (updates_of r.log) (Invariant.sessions r) r.given c k (account r.world c) (Invariant.issued_by r c) ms (Invariant.link r.world k) (Invariant.conn r.world k).up m
@@ -35,7 +36,7 @@ module _ (s : State) (r : Run) (c k : ℕ) (m : ServerMsg) (ms : List Down) (st 
       absurd (err_ok t.out fault (sym e ∙ t.is))
 
   pub taken : IsOk (Comes.frame_comes (account r.world c) (Msgs (m ∷ [])))
-  taken = by_answer (Comes.comes (account r.world c) m) refl
+  taken = subst IsOk (sym (one_comes (account r.world c) m)) (by_answer (Comes.comes (account r.world c) m) refl)
 
 pub each_taken : EachTaken
 each_taken s ls c k m ms h calm present first = taken s (run (opened s) ls) c k m ms (stands s ls h) calm present first

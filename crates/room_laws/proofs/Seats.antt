@@ -20,6 +20,7 @@ use Rattle.room_model.specs.Run.{line}
 use Rattle.room_laws.specs.Events.{Event, Called, Came, Ended, done_or, account_or, back_or, took_or, happened, happen, if_own, comes_as, owned_events, down_events, traffic_events, moved_events, line_events, events, FollowsEvents}
 use Rattle.room_laws.specs.Moves.{move, where_some}
 use Rattle.room_laws.proofs.Calls.{seat_same, seat_other}
+use Rattle.room_laws.proofs.Single.{one_comes}
 
 send_clients : (w : World) (k : ℕ) (us : List Up) (b : Bool) (o : Option Conn) → (World.ups_on w k us b o).clients ≡ w.clients
 send_clients w k us true (Some q) = refl
@@ -185,7 +186,7 @@ module _ (c : ℕ) where
         put_sent w w (World.send_up u k (map World.frame_up out.replies)) d q es (send_clients u k (map World.frame_up out.replies) (World.is_attached u k) (get u.conns k)) refl (f out refl)
 
     next_after : (k : ℕ) (m : ServerMsg) (r : Result Comes.Took Comes.FrameFault) → Comes.comes p.account m ≡ r
-        → account (World.frame_taken w number d k p (Comes.took_next (Comes.took p.account) r)).world c ≡ happen (account w c) (if_own c d (Came m ∷ []))
+        → account (World.frame_taken w number d k p (Comes.or_lost p.account r)).world c ≡ happen (account w c) (if_own c d (Came m ∷ []))
     next_after k m (Err fault) i = cuts (calls.lost p.account) (Came m ∷ []) (sym (ap (took_or p.account) i))
     next_after k m (Ok out) i =
         let q : Seat = record { account = out.account; present = p.present; noticed = out.notices } in
@@ -197,7 +198,7 @@ module _ (c : ℕ) where
         let q : Seat = record { account = p.account; present = p.present; noticed = [] } in
         let u = World.with_seat w d q in
         put_sent w w (World.send_up u k []) d q [] (send_clients u k [] (World.is_attached u k) (get u.conns k)) refl refl
-    takes_after k (Message n) = next_after k n (Comes.comes p.account n) refl
+    takes_after k (Message n) = subst (λ r. account (World.frame_taken w number d k p r).world c ≡ happen (account w c) (if_own c d (Came n ∷ []))) (sym (one_comes p.account n)) (next_after k n (Comes.comes p.account n) refl)
     takes_after k (Closed code text) = cuts (calls.lost p.account) (Ended ∷ []) refl
 
   -- with the queue down one shorter, which no account sees
@@ -241,40 +242,34 @@ module _ (c : ℕ) where
 
   -- a drain, move by move
 
-  module _ (number n : ℕ) (a : World.Stepped)
-      (rest : (b : World.Stepped) → account (World.drain_from n number b).world c ≡ happen (account b.world c) (moved_events n b.world number c)) where
-    stays : (m : ℕ) (b : World.Stepped) → World.drain_next b.world number ≡ None → account (World.drain_from m number b).world c ≡ account b.world c
-    stays zero b e = refl
-    stays (suc m) b e =
-        let same_step : World.then_stepped b (World.or_quiet b.world (World.drain_next b.world number)) ≡ World.then_stepped b (World.quiet b.world) =
-        ap (λ o. World.then_stepped b (World.or_quiet b.world o)) e in
-        ap (λ (z : World.Stepped). account (World.drain_from m number z).world c) same_step ∙ stays m (World.then_stepped b (World.quiet b.world)) e
-
-    next_after_move : (up down : Option ℕ) → World.least World.has_up (entries a.world.conns) ≡ up → World.least World.has_down (entries a.world.conns) ≡ down →
-        account (World.drain_from n number (World.then_stepped a (World.or_quiet a.world (World.drain_step a.world number up down)))).world c
-        ≡ happen (account a.world c) (where_some (move up down) (λ m. traffic_events a.world c m.0 m.1 ++ moved_events n (World.conn_line a.world number m.0 m.1).world number c))
-    next_after_move (Some k) down e f =
-        rest (World.then_stepped a (World.goes_up a.world k)) ∙ ap (λ z. happen z (moved_events n (World.goes_up a.world k).world number c)) (conn_after a.world number k lines.GoesUp)
-    next_after_move None (Some k) e f =
-        rest (World.then_stepped a (World.comes_down a.world number k)) ∙ ap (λ z. happen z (moved_events n (World.comes_down a.world number k).world number c)) (conn_after a.world number k lines.ComesDown)
-        ∙ sym (happen-append (account a.world c) (traffic_events a.world c k lines.ComesDown) (moved_events n (World.comes_down a.world number k).world number c))
-    next_after_move None None e f =
-        stays n (World.then_stepped a (World.quiet a.world)) (ap (λ o. World.drain_step a.world number o (World.least World.has_down (entries a.world.conns))) e ∙ ap (World.drain_step a.world number None) f)
-
-  drain_after : (n number : ℕ) (a : World.Stepped) → account (World.drain_from n number a).world c ≡ happen (account a.world c) (moved_events n a.world number c)
-  drain_after zero number a = refl
-  drain_after (suc n) number a = next_after_move number n a (λ b. drain_after n number b) (World.least World.has_up (entries a.world.conns)) (World.least World.has_down (entries a.world.conns)) refl refl
-
-  drains : (w : World) (number n : ℕ) → account (World.drain w number n).world c ≡ happen (account w c) (moved_events n w number c)
+  stays : (w : World) (number n : ℕ) → World.drain_next w number ≡ None → account (World.drain w number n).world c ≡ account w c
   unfolding World.drain
-  drains w number n = drain_after n number (World.quiet w)
+  stays w number zero e = refl
+  stays w number (suc n) e = ap (λ o. account (World.drain (World.or_quiet w o).world number n).world c) e ∙ stays w number n e
+
+  module _ (w : World) (number n : ℕ) (rest : (v : World) → account (World.drain v number n).world c ≡ happen (account v c) (moved_events n v number c)) where
+    next_move_after : (up down : Option ℕ) → World.least World.has_up (entries w.conns) ≡ up → World.least World.has_down (entries w.conns) ≡ down →
+        account (World.drain (World.or_quiet w (World.drain_step w number up down)).world number n).world c
+        ≡ happen (account w c) (where_some (move up down) (λ m. traffic_events w c m.0 m.1 ++ moved_events n (World.conn_line w number m.0 m.1).world number c))
+    next_move_after (Some k) down e f =
+        rest (World.goes_up w k).world ∙ ap (λ z. happen z (moved_events n (World.goes_up w k).world number c)) (conn_after w number k lines.GoesUp)
+    next_move_after None (Some k) e f =
+        rest (World.comes_down w number k).world ∙ ap (λ z. happen z (moved_events n (World.comes_down w number k).world number c)) (conn_after w number k lines.ComesDown)
+        ∙ sym (happen-append (account w c) (traffic_events w c k lines.ComesDown) (moved_events n (World.comes_down w number k).world number c))
+    next_move_after None None e f =
+        stays w number n (ap (λ o. World.drain_step w number o (World.least World.has_down (entries w.conns))) e ∙ ap (World.drain_step w number None) f)
+
+  drains : (number n : ℕ) (w : World) → account (World.drain w number n).world c ≡ happen (account w c) (moved_events n w number c)
+  unfolding World.drain
+  drains number zero w = refl
+  drains number (suc n) w = next_move_after w number n (drains number n) (World.least World.has_up (entries w.conns)) (World.least World.has_down (entries w.conns)) refl refl
 
   pub step_after : (w : World) (number : ℕ) (l : lines.Line) → account (World.step w number l).world c ≡ happen (account w c) (line_events w c number l)
   step_after w number (lines.OfClient d call) = call_after w number d call
   step_after w number (lines.AsksClient d question) = refl
   step_after w number (lines.OfConnection k traffic) = conn_after w number k traffic
   step_after w number (lines.OfServer service) = server_after w service
-  step_after w number (lines.Drain n) = drains w number n
+  step_after w number (lines.Drain n) = drains number n w
   step_after w number lines.Link = refl
 
 pub follows_events : FollowsEvents

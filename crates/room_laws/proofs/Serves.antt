@@ -24,6 +24,7 @@ use Rattle.room_laws.proofs.Frames.{joins, resumes}
 use Rattle.room_laws.proofs.Talks.{Reached, talk_all, or_none}
 use Rattle.room_laws.proofs.Answering.{Kept, stops, low, keeps_shut}
 use Rattle.room_laws.proofs.Outcomes.{joins_kept, resumes_kept}
+use Rattle.room_laws.proofs.Acting.{act_from}
 
 pub act_entry : (v : Server.Server) (k a : ℕ) (m : ClientMsg) → (Server.acts v k a None m).entry ≡ None
 act_entry v k a (client.Hello h) = refl
@@ -39,9 +40,9 @@ waits_none (client.Broadcast e) = refl
 waits_none client.Fetch = refl
 waits_none (client.Update os) = refl
 
-pub entry_none : (k a : ℕ) (ms : List ClientMsg) (sv : Served) → sv.entry ≡ None → (Server.act_all sv k a None ms).entry ≡ None
+pub entry_none : (k a : ℕ) (ms : List ClientMsg) (sv : Served) → sv.entry ≡ None → (act_from sv k a None ms).entry ≡ None
 entry_none k a [] sv e = e
-entry_none k a (m ∷ ms) sv e = subst (λ (x : Option Update). (Server.act_all (Server.then_served sv (Server.acts sv.server k a None m)) k a x ms).entry ≡ None) (sym (waits_none m)) (entry_none k a ms (Server.then_served sv (Server.acts sv.server k a None m)) (ap (Server.or_entry sv.entry) (act_entry sv.server k a m) ∙ or_none sv.entry ∙ e))
+entry_none k a (m ∷ ms) sv e = subst (λ (x : Option Update). (act_from (Server.then_served sv (Server.acts sv.server k a None m)) k a x ms).entry ≡ None) (sym (waits_none m)) (entry_none k a ms (Server.then_served sv (Server.acts sv.server k a None m)) (ap (Server.or_entry sv.entry) (act_entry sv.server k a m) ∙ or_none sv.entry ∙ e))
 
 -- the session that a hello asks for
 resume_of : Up → Option Resume
@@ -122,8 +123,8 @@ module _ (s : State) (r : Run) (v : Server.Server) (k : ℕ) (q : Conn) (u : Up)
   reached_kept a sv e n h = sent_kept a sv e h (rw n (rw (append-nil r.log) (stops s r v k q u us st there first runs v.state refl)))
 
   -- a frame that holds no operations that are new
-  pub talk_kept : (a : ℕ) (ms : List ClientMsg) → l.actor ≡ Some a → ((d : ℕ) → (Invariant.conn r.world k).owner ≡ Some d → IsUndisturbed r d → UpsOf d (Some a) us) → KeptHere (Server.act_all (Server.nothing v) k a None ms)
-  talk_kept a ms e f = reached_kept a (Server.act_all (Server.nothing v) k a None ms) e (entry_none k a ms (Server.nothing v) refl) (talk_all s r w k a ms (Server.nothing v) (begins a e f))
+  pub talk_kept : (a : ℕ) (ms : List ClientMsg) → l.actor ≡ Some a → ((d : ℕ) → (Invariant.conn r.world k).owner ≡ Some d → IsUndisturbed r d → UpsOf d (Some a) us) → KeptHere (act_from (Server.nothing v) k a None ms)
+  talk_kept a ms e f = reached_kept a (act_from (Server.nothing v) k a None ms) e (entry_none k a ms (Server.nothing v) refl) (talk_all s r w k a ms (Server.nothing v) (begins a e f))
 
   some_is : {A : Type 0} (x y : A) → Some x ≡ Some y → x ≡ y
   some_is x y e = cc

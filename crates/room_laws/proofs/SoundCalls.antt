@@ -218,7 +218,7 @@ resent_sound x h = either_sound (record x { sent = issued x; fresh = [] }) x (is
 
 -- edits
 
-actor_bound : (o : Option Resume) → IsSession o → actor_in o ≤ most_actor
+pub actor_bound : (o : Option Resume) → IsSession o → actor_in o ≤ most_actor
 actor_bound None h = omega arith
 actor_bound (Some s) h = h.1
 

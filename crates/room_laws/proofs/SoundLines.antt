@@ -27,6 +27,7 @@ use Rattle.room_laws.proofs.Calls.{seat_same, seat_other}
 use Rattle.room_laws.proofs.SoundMaps.{each_put}
 use Rattle.room_laws.proofs.SoundSends.{AreSoundFrames, hello_sound, flush_sound, resend_sound, replies_sound}
 use Rattle.room_laws.proofs.SoundServes.{AreSoundOuts, Goes, serve_goes, gone_is}
+use Rattle.room_laws.proofs.Single.{one_comes}
 
 -- queues
 
@@ -255,7 +256,7 @@ module _ (n : ℕ) (s : State) where
 
     -- what comes down
     takes_next : (k : ℕ) (m : ServerMsg) (r : Result Comes.Took Comes.FrameFault) → IsSoundDown (Message m) → Comes.comes p.account m ≡ r
-        → Stands n s (World.frame_taken w number c k p (Comes.took_next (Comes.took p.account) r))
+        → Stands n s (World.frame_taken w number c k p (Comes.or_lost p.account r))
     takes_next k m (Err fault) i e = saying _ _ (cuts (calls.lost p.account) (keep.lost p.account hp))
     takes_next k m (Ok out) i e =
         let after = keep.comes p.account m out hp i e in
@@ -264,7 +265,7 @@ module _ (n : ℕ) (s : State) where
 
     takes : (k : ℕ) (m : Down) → IsSoundDown m → Stands n s (World.client_takes w number c k p m)
     takes k Pong i = saying _ _ (send (World.with_seat w c (record { account = p.account; present = p.present; noticed = [] })) k [] (put p.account p.present [] hp) tt)
-    takes k (Message m) i = takes_next k m (Comes.comes p.account m) i refl
+    takes k (Message m) i = subst (λ r. Stands n s (World.frame_taken w number c k p r)) (sym (one_comes p.account m)) (takes_next k m (Comes.comes p.account m) i refl)
     takes k (Closed code text) i = saying _ _ (cuts (calls.lost p.account) (keep.lost p.account hp))
 
   module _ (keep : KeepsSound) where
@@ -436,17 +437,13 @@ module _ (keep : KeepsSound) (items : ItemsOfValid) (n : ℕ) where
   drain_step s w number None (Some k) h = down_at n s keep w number k (get w.conns k) refl h
   drain_step s w number None None h = quietly n s w h
 
-  drain_from : (s : State) (number m : ℕ) (so_far : Stepped) → Stands n s so_far → Stands n s (World.drain_from m number so_far)
-  drain_from s number zero so_far h = h
-  drain_from s number (suc m) so_far h =
-      let w = so_far.world in
-      let next = World.or_quiet w (World.drain_next w number) in
-      drain_from s number m (World.then_stepped so_far next) (then_stands s so_far next h
-      (drain_step (state_after s so_far.entries) w number (World.least World.has_up (entries w.conns)) (World.least World.has_down (entries w.conns)) (record { world = h.world; state = h.state })))
-
   drains : (s : State) (w : World) (number m : ℕ) → Same n s w → Stands n s (World.drain w number m)
   unfolding World.drain
-  drains s w number m h = drain_from s number m (World.quiet w) (quietly n s w h)
+  drains s w number zero h = quietly n s w h
+  drains s w number (suc m) h =
+      let out = World.drain_once w number in
+      let once = drain_step s w number (World.least World.has_up (entries w.conns)) (World.least World.has_down (entries w.conns)) h in
+      then_stands s out (World.drain out.world number m) once (drains (state_after s out.entries) out.world number m (record { world = once.world; state = once.state }))
 
   at : (s : State) (w : World) → IsSoundWorld n w → s ≡ state_in w.host → Same n s w
   at s w h e = record { world = h; state = sym e }

@@ -29,6 +29,7 @@ use Rattle.room_laws.proofs.Serves.{ups_of}
 use Rattle.room_laws.proofs.OwnFrames.{serve_takes, outcome_of}
 use Rattle.room_laws.proofs.Whole.{stands}
 use Rattle.room_laws.proofs.Facts.{none_some, both}
+use Rattle.room_laws.proofs.Acting.{act_from, taken_from}
 
 -- lists of sends
 
@@ -71,7 +72,7 @@ spared_act v k a o client.Fetch = spared_parts k v.state.count (last_of v.state.
 spared_act v k a None (client.Update os) = refl
 spared_act v k a (Some n) (client.Update os) = spared_each Server.has_fetched (Message (server.Update (v.state.count + 1) (ops_of n))) (entries v.links) refl
 
-spared_all : (k a : ℕ) (ms : List ClientMsg) (sv : Served) (o : Option Update) → spares_all sv.outs ≡ true → spares_all (Server.act_all sv k a o ms).outs ≡ true
+spared_all : (k a : ℕ) (ms : List ClientMsg) (sv : Served) (o : Option Update) → spares_all sv.outs ≡ true → spares_all (act_from sv k a o ms).outs ≡ true
 spared_all k a [] sv o e = e
 spared_all k a (m ∷ ms) sv o e = spared_all k a ms (Server.then_served sv (Server.acts sv.server k a o m)) (Server.waits_after o m) (spared_append sv.outs (Server.acts sv.server k a o m).outs e (spared_act sv.server k a o m))
 
@@ -134,9 +135,9 @@ module _ (s : State) (r : Run) (v : Server.Server) (k : ℕ) (q : Conn) (u : Up)
     talk_spared : (m : ClientMsg) → IsTalk m → u ≡ Ok (frame.Msgs (m ∷ [])) → Spared (Server.serve v k u)
     talk_spared m i e = subst Spared (sym (ap (Server.serve v k) e ∙ talks v k a l m i attached named (free_of hosts))) (spared_act v k a None m)
 
-    taken_spared : (os : List Op) (t : Taken) → take v.state a os ≡ t → (t ≡ Nothing) ⊎ ((n : Update) × (t ≡ Takes n)) → Spared (Server.taken v k l a (client.Update os ∷ []) t)
+    taken_spared : (os : List Op) (t : Taken) → take v.state a os ≡ t → (t ≡ Nothing) ⊎ ((n : Update) × (t ≡ Takes n)) → Spared (taken_from v k l a (client.Update os ∷ []) t)
     taken_spared os t e (inl f) = rw f (spared_all k a (client.Update os ∷ []) (Server.nothing v) None refl)
-    taken_spared os t e (inr f) = rw f.1 (spared_full (nat_le v.limits.updates v.state.count) v k l (codes "room full " ++ decimal v.state.count) (Server.act_all (Server.nothing v) k a (Some f.0) (client.Update os ∷ []))
+    taken_spared os t e (inr f) = rw f.1 (spared_full (nat_le v.limits.updates v.state.count) v k l (codes "room full " ++ decimal v.state.count) (act_from (Server.nothing v) k a (Some f.0) (client.Update os ∷ []))
         (spared_all k a (client.Update os ∷ []) (Server.nothing v) (Some f.0) refl))
 
     ops_spared : (os : List Op) → u ≡ Ok (frame.Msgs (client.Update os ∷ [])) → Spared (Server.serve v k u)

@@ -12,7 +12,7 @@ use Rattle.room_msg.specs.declared.messages.ClientFrame.TheVariants as frame
 use Rattle.room_msg.specs.declared.reason.Reason.TheVariants as reason
 use Rattle.room_log.specs.Log.{State, Session, Updated, Update, session_of, last_in, updated}
 use Rattle.room_log.specs.Take.{Taken, Nothing, Gap, Takes, take}
-use Rattle.room_model.specs.Access.{may_do, refusal_text}
+use Rattle.room_model.specs.Access.{Decision, barred, refusal_text}
 use Rattle.room_model.specs.Server
 use Rattle.room_model.specs.Server.{Link, Up, Served, Pong}
 use Rattle.room_model.specs.World
@@ -28,6 +28,7 @@ use Rattle.room_laws.proofs.Serves.{begins, talk_kept, sent_kept, reached_kept}
 use Rattle.room_laws.proofs.Talks.{Reached}
 use Rattle.room_laws.proofs.Takings.{Taking, taking}
 use Rattle.room_laws.proofs.Mixed.{mixed}
+use Rattle.room_laws.proofs.Acting.{act_from, taken_from, taken_is}
 
 slice_there : (ss : List Session) (a : ℕ) → 0 < a → a ≤ length ss → (x : Session) × (session_of ss a ≡ Some x)
 slice_there ss zero p q = absurd (omega arith)
@@ -76,7 +77,7 @@ module _ (s : State) (r : Run) (v : Server.Server) (k : ℕ) (q : Conn) (u : Up)
     started = begins s r v k q u us st there first runs l attached a named (λ d o i. absurd (void d o i))
 
     abbrev Out : Update → Served
-    Out n = Server.act_all (Server.nothing v) k a (Some n) ms
+    Out n = act_from (Server.nothing v) k a (Some n) ms
 
     none_kept : (n : Update) → Reached s r w k a (Out n) → (Out n).entry ≡ None → KeptHere (Out n)
     none_kept n h e = reached_kept s r v k q u us st there first runs l attached a (Out n) named e h
@@ -95,15 +96,20 @@ module _ (s : State) (r : Run) (v : Server.Server) (k : ℕ) (q : Conn) (u : Up)
         let done = mixed s r w k a v.state n x.0 t.actor known next t.some (λ d o i. void d (sym owner_is ∙ o) i) v ms refl started (f n) in
         ⊎_elim (none_kept n done.reached) (some_kept n x.0 known next t.some t.actor f done.reached) done.entry
 
-    taken_kept : (t : Taken) → take v.state a (Server.all_ops_in ms) ≡ t → Spells (Server.taken v k l a ms t) → KeptHere (Server.taken v k l a ms t)
+    taken_kept : (t : Taken) → take v.state a (Server.all_ops_in ms) ≡ t → Spells (taken_from v k l a ms t) → KeptHere (taken_from v k l a ms t)
     taken_kept Nothing e f = talk_kept s r v k q u us st there first runs l attached a ms named (λ d o i. absurd (void d o i))
     taken_kept (Gap expected got) e f = shuts 4402 (Server.expected_got (codes "clock gap") expected got)
-    taken_kept (Takes n) e f = by_full (nat_le v.limits.updates v.state.count) 4406 (codes "room full " ++ decimal v.state.count) (Out n) (λ i. takes_kept n e (spells_on (Server.taken v k l a ms (Takes n)) (Out n) i f))
+    taken_kept (Takes n) e f = by_full (nat_le v.limits.updates v.state.count) 4406 (codes "room full " ++ decimal v.state.count) (Out n) (λ i. takes_kept n e (spells_on (taken_from v k l a ms (Takes n)) (Out n) i f))
 
     owned_kept : (o : Option ℕ) → Spells (Server.owned v k l a ms o) → KeptHere (Server.owned v k l a ms o)
     owned_kept (Some got) f = shuts 4404 (Server.expected_got (codes "foreign actor") a got)
-    owned_kept None f = by_may (may_do l.decision ms) 4403 (refusal_text l.decision) (Server.taken v k l a ms (take v.state a (Server.all_ops_in ms)))
-        (λ i. taken_kept (take v.state a (Server.all_ops_in ms)) refl (spells_on (Server.owned v k l a ms None) (Server.taken v k l a ms (take v.state a (Server.all_ops_in ms))) i f))
+    owned_kept None f = unless (barred l.decision ms) f
+      where
+        unless : (bar : Option Decision) → Spells (Server.permitted_unless v k l a ms bar) → KeptHere (Server.permitted_unless v k l a ms bar)
+        unless None g =
+            let t = take v.state a (Server.all_ops_in ms) in
+            subst KeptHere (sym (taken_is v k l a ms t)) (taken_kept t refl (subst Spells (taken_is v k l a ms t) g))
+        unless (Some bar) g = shuts 4403 (refusal_text bar)
 
     pub session_kept : Spells (Server.session_frame v k l a ms) → KeptHere (Server.session_frame v k l a ms)
     session_kept f = by_full (Server.has_hello ms) 4400 (codes "bad frame " ++ Server.reason_text reason.Hello) (Server.owned v k l a ms (Server.foreign_in a (Server.all_ops_in ms)))

@@ -25,6 +25,7 @@ use Rattle.room_laws.proofs.Calm.{ups_after, SaidTo, passes_said}
 use Rattle.room_laws.proofs.Sent.{AllSaid}
 use Rattle.room_laws.proofs.Leaving.{ups_passed}
 use Rattle.room_laws.proofs.Acts.{keeps_say, keeps_fetch}
+use Rattle.room_laws.proofs.Acting.{act_from}
 
 pub deliver-append : (qs : FinMap nat_cmp Conn) (a b : List (ℕ × Down)) → deliver (deliver qs a) b ≡ deliver qs (a ++ b)
 deliver-append qs [] b = refl
@@ -115,6 +116,6 @@ module _ (s : State) (r : Run) (w : World.World) (k a : ℕ) where
   waits_none (client.Update os) = refl
 
   -- a whole frame, where no update waits
-  pub talk_all : (ms : List ClientMsg) (sv : Served) → Reached sv → Reached (Server.act_all sv k a None ms)
+  pub talk_all : (ms : List ClientMsg) (sv : Served) → Reached sv → Reached (act_from sv k a None ms)
   talk_all [] sv h = h
   talk_all (m ∷ ms) sv h = rw (waits_none m) (talk_all ms (Server.then_served sv (Server.acts sv.server k a None m)) (talk sv m h))

@@ -52,17 +52,13 @@ module _ (s : State) where
   drain_step_keeps r number None (Some k) st = lift r (World.comes_down r.world number k) (λ i. keeps_down s r number k i) st
   drain_step_keeps r number None None st = saying r [] st
 
-  drain_from_keeps : (r : Run) (number n : ℕ) (so_far : World.Stepped) → Good s (with_step r so_far) → Good s (with_step r (World.drain_from n number so_far))
-  drain_from_keeps r number zero so_far st = st
-  drain_from_keeps r number (suc n) so_far st =
-      let w = so_far.world in
-      drain_from_keeps r number n (World.then_stepped so_far (World.or_quiet w (World.drain_next w number)))
-      (twice s r so_far (World.or_quiet w (World.drain_next w number))
-      (drain_step_keeps (with_step r so_far) number (World.least World.has_up (entries w.conns)) (World.least World.has_down (entries w.conns)) st))
-
   keeps_drain : (r : Run) (number n : ℕ) → Good s r → Good s (with_step r (World.drain r.world number n))
   unfolding World.drain
-  keeps_drain r number n st = drain_from_keeps r number n (World.quiet r.world) (saying r [] st)
+  keeps_drain r number zero st = saying r [] st
+  keeps_drain r number (suc n) st =
+      let out = World.drain_once r.world number in
+      let once = drain_step_keeps r number (World.least World.has_up (entries r.world.conns)) (World.least World.has_down (entries r.world.conns)) st in
+      twice s r out (World.drain out.world number n) (keeps_drain (with_step r out) number n once)
 
   keeps_conn : (r : Run) (number k : ℕ) (traffic : lines.Traffic) → Good s r → Good s (with_step r (World.conn_line r.world number k traffic))
   keeps_conn r number k lines.GoesUp st = up r k st

@@ -1,4 +1,5 @@
 pub mod Accounts
+pub mod Alone
 pub mod Always
 pub mod Back
 pub mod Bounds

@@ -1,4 +1,5 @@
 //! Laws of every run, from each valid opening state and over all lines that a schedule can spell.
+ghost use Rattle.room_laws.specs.Alone.{AlwaysAlone};
 ghost use Rattle.room_laws.specs.Always.{AlwaysOnce, AlwaysServed, AlwaysShows, AlwaysTaken, AlwaysUndo, AlwaysUndone};
 ghost use Rattle.room_laws.specs.Events.{FollowsEvents};
 ghost use Rattle.room_laws.specs.Growth.{LogGrows};
@@ -84,4 +85,10 @@ pub fn each_undone()
 /// log.
 pub fn each_undo()
     ensures { AlwaysUndo }
+{}
+
+/// Undoing alone: where no state came to a client since some moment, and each update that came equals its first pending
+/// operations, undoing the entries that were begun since restores what it showed then.
+pub fn each_undo_alone()
+    ensures { AlwaysAlone }
 {}

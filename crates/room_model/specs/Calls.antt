@@ -1,4 +1,9 @@
 -- The calls of a client's user, and what each does to the account.
+--
+-- Each call is an entry of its own. `edit`: there is a tree, then the tests of `make`, then the size of the batch's frame.
+-- `batch_begin`, `batch_end`: whether a batch is open. `go_back`, for undo and redo: no batch is open, there is an entry, its
+-- clocks are left, then the size of the batch's frame, then that of the presence. `presence`: the depth of its values, then its
+-- size. `event`: the connection, the depth, the size. `flushed` and `resent` with the frames that they send.
 use Rattle.std.specs.Prelude.{ℕ, ◌+◌, Bool, true, false, ◌&&◌, not, if◌then◌else◌, nat_lt, List, [], ◌∷◌, ◌++◌, map, length, Option, Some, None, Result, Ok, Err}
 use Rattle.room_json.specs.Value.{Value, depth, merged}
 use Rattle.room_json.specs.View.{json_of}

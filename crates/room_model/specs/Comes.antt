@@ -1,4 +1,9 @@
 -- What a client does with a message, and with a frame.
+--
+-- The entry is `frame`, what was read of one: its messages are taken one after the other (`comes`), up to the first refusal.
+-- The tests of each message in their order: the stage allows it (`Unexpected`); a part of a state belongs to those kept
+-- (`Parts`), and with the last one the items are a tree (`NotATree`); an update has the next number (`Gap`); what it says of
+-- the account agrees with what is kept (`AccountFault`).
 use Rattle.std.specs.Prelude.{ℕ, ◌+◌, ◌==◌, ℤ, Bool, true, false, ◌&&◌, ◌||◌, not, if◌then◌else◌, nat_lt, nat_le, List, [], ◌∷◌, ◌++◌, map, Option, Some, None, Result, Ok, Err}
 use Rattle.room_json.specs.Value.{Value}
 use Rattle.room_json.specs.Fields.{first}
@@ -222,17 +227,21 @@ then_took so_far out = record {
   notices = so_far.notices ++ out.notices;
 }
 
-abbrev pub took_next : Took → Result Took FrameFault → Result Took Refusal
-took_next so_far (Err fault) = refused so_far.account fault
-took_next so_far (Ok out) = Ok (then_took so_far out)
+abbrev pub or_lost : Account → Result Took FrameFault → Result Took Refusal
+or_lost x (Err fault) = refused x fault
+or_lost x (Ok out) = Ok out
 
-abbrev pub all_come : Result Took Refusal → List ServerMsg → Result Took Refusal
-all_come so_far [] = so_far
-all_come so_far (m ∷ ms) = all_come (first so_far (λ (out : Took). took_next out (comes out.account m))) ms
+abbrev pub then_more : Took → Result Took Refusal → Result Took Refusal
+then_more out (Err refusal) = Err refusal
+then_more out (Ok more) = Ok (then_took out more)
+
+abbrev pub all_come : Account → List ServerMsg → Result Took Refusal
+all_come x [] = Ok (took x)
+all_come x (m ∷ ms) = first (or_lost x (comes x m)) (λ (out : Took). then_more out (all_come out.account ms))
 
 abbrev pub frame_comes : Account → ServerFrame → Result Took Refusal
 frame_comes x Pong = Ok (took x)
-frame_comes x (Msgs ms) = all_come (Ok (took x)) ms
+frame_comes x (Msgs ms) = all_come x ms
 
 -- what was read of a frame
 abbrev pub frame : Account → Result ServerFrame Reason → Result Took Refusal

@@ -1,4 +1,14 @@
 -- A step of the server: what it answers a frame, and what it takes into the log.
+--
+-- The entry is `serve`, a frame of a connection. Its tests stand in this order, and the first that fails closes the connection:
+--   `frame_at`       a ping is answered; the text is a frame
+--   `messages`       without a session there is just a hello (`hello`), to this room; then its session is there and has that
+--                    key, or there are fewer sessions than the limit (`greet`); then its level is to read (`admit`)
+--   `session_frame`  no message is a hello
+--   `owned`          no operation is of another actor
+--   `permitted`      no message needs a higher level
+--   `taken`          the clocks have no gap; then there are fewer updates than the limit
+-- What passes acts message by message (`act_all`). A connection is new by `opened`, and ends by `gone`.
 use Rattle.std.specs.Prelude.{ℕ, zero, suc, ◌+◌, ◌==◌, ℤ, pos, negsuc, Bool, true, false, ◌&&◌, ◌||◌, not, if◌then◌else◌, nat_le, is_some, List, [], ◌∷◌, ◌++◌, length, take as front, drop, codes, decimal, Option, Some, None, Result, Ok, Err}
 use Rattle.std.specs.Ordering.{nat_cmp}
 use Rattle.std.specs.Str.{bytes_eq}
@@ -18,7 +28,7 @@ use Rattle.room_msg.specs.declared.reason.Reason.{Reason}
 use Rattle.room_msg.specs.declared.reason.Reason.TheVariants as reason
 use Rattle.room_log.specs.Log.{Session, State, Update, Entry, Join, Updated, actor_of, ops_of, session_of, last_of, name_in, joined, updated}
 use Rattle.room_log.specs.Take.{Taken, Nothing, Gap, Takes, take}
-use Rattle.room_model.specs.Access.{Access, Decision, decide, group_of, may_do, refusal_text}
+use Rattle.room_model.specs.Access.{Access, Decision, decide, group_of, barred, refusal_text}
 
 -- what comes down a connection: a message, the answer to a ping, or a close with its code and text
 pub data Down : Type 0 where
@@ -194,10 +204,13 @@ abbrev pub admitted : Server → ℕ → Link → Hello → Option Resume → Op
 admitted v k l h None decision = join v k l h decision
 admitted v k l h (Some r) decision = resumed v k l r decision
 
+abbrev pub admit_unless : Server → ℕ → Link → Hello → Option Decision → Option Decision → Served
+admit_unless v k l h decision None = admitted v k l h h.resume decision
+admit_unless v k l h decision (Some bar) = shut v k l 4403 (refusal_text bar)
+
 -- a hello needs the level to read
 abbrev pub admit : Server → ℕ → Link → Hello → Option Decision → Served
-admit v k l h decision =
-    if may_do decision (client.Hello h ∷ []) then admitted v k l h h.resume decision else shut v k l 4403 (refusal_text decision)
+admit v k l h decision = admit_unless v k l h decision (barred decision (client.Hello h ∷ []))
 
 -- a session with that actor and key; the key 0 is nobody's to resume
 
@@ -315,23 +328,28 @@ waits_after waits (client.Broadcast e) = waits
 waits_after waits client.Fetch = waits
 waits_after waits (client.Update os) = None
 
-abbrev pub act_all : Served → ℕ → ℕ → Option Update → List ClientMsg → Served
-act_all so_far k a waits [] = so_far
-act_all so_far k a waits (m ∷ ms) = act_all (then_served so_far (acts so_far.server k a waits m)) k a (waits_after waits m) ms
+abbrev pub act_all : Server → ℕ → ℕ → Option Update → List ClientMsg → Served
+act_all v k a waits [] = nothing v
+act_all v k a waits (m ∷ ms) =
+    let out = acts v k a waits m in
+    then_served out (act_all out.server k a (waits_after waits m) ms)
 
 -- the tests of a session's frame, after those of its text, in their order
 
 abbrev pub taken : Server → ℕ → Link → ℕ → List ClientMsg → Taken → Served
-taken v k l a ms Nothing = act_all (nothing v) k a None ms
+taken v k l a ms Nothing = act_all v k a None ms
 taken v k l a ms (Gap expected got) = shut v k l 4402 (expected_got (codes "clock gap") expected got)
 taken v k l a ms (Takes u) =
     if nat_le v.limits.updates v.state.count
     then shut v k l 4406 (codes "room full " ++ decimal v.state.count)
-    else act_all (nothing v) k a (Some u) ms
+    else act_all v k a (Some u) ms
+
+abbrev pub permitted_unless : Server → ℕ → Link → ℕ → List ClientMsg → Option Decision → Served
+permitted_unless v k l a ms None = taken v k l a ms (take v.state a (all_ops_in ms))
+permitted_unless v k l a ms (Some bar) = shut v k l 4403 (refusal_text bar)
 
 abbrev pub permitted : Server → ℕ → Link → ℕ → List ClientMsg → Served
-permitted v k l a ms =
-    if may_do l.decision ms then taken v k l a ms (take v.state a (all_ops_in ms)) else shut v k l 4403 (refusal_text l.decision)
+permitted v k l a ms = permitted_unless v k l a ms (barred l.decision ms)
 
 abbrev pub owned : Server → ℕ → Link → ℕ → List ClientMsg → Option ℕ → Served
 owned v k l a ms (Some got) = shut v k l 4404 (expected_got (codes "foreign actor") a got)

@@ -1,4 +1,9 @@
 -- The world: a server, clients, and a queue up and down for each connection; and what each line of a schedule does.
+--
+-- The entry is `step`, at the end. A line of a client is a call (`client_calls`), which changes its account and may send
+-- frames; a line of a connection (`conn_line`) moves what waits in its queues, by the server (`goes_up`) or by the client or
+-- the link (`comes_down`); a line of the server (`server_line`) stops it, starts it or sets what stops it; `drain` moves what
+-- waits until nothing does.
 use Rattle.std.specs.Prelude.{ℕ, zero, suc, ◌+◌, ◌-◌, Bool, true, false, ◌&&◌, if◌then◌else◌, nat_le, is_some, List, [], ◌∷◌, ◌++◌, map, codes, Option, Some, None, Result, Ok, Err}
 use Rattle.std.specs.Ordering.{nat_cmp}
 use Rattle.std.specs.FinMap.{FinMap, get, insert, entries, from_entries, empty}
@@ -344,13 +349,15 @@ abbrev pub or_quiet : World → Option Stepped → Stepped
 or_quiet w None = quiet w
 or_quiet w (Some out) = out
 
--- where nothing waits, no step does anything
-abbrev pub drain_from : ℕ → ℕ → Stepped → Stepped
-drain_from zero line so_far = so_far
-drain_from (suc n) line so_far = drain_from n line (then_stepped so_far (or_quiet so_far.world (drain_next so_far.world line)))
+-- where nothing waits, nothing is done
+abbrev pub drain_once : World → ℕ → Stepped
+drain_once w line = or_quiet w (drain_next w line)
 
 unfoldable pub drain : World → ℕ → ℕ → Stepped
-drain w line n = drain_from n line (quiet w)
+drain w line zero = quiet w
+drain w line (suc n) =
+    let out = drain_once w line in
+    then_stepped out (drain out.world line n)
 
 -- calls of a client
 
