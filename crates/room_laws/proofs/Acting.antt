@@ -5,7 +5,7 @@ use Rattle.room_msg.specs.declared.messages.ClientMsg.{ClientMsg}
 use Rattle.room_log.specs.Log.{Entry, Update}
 use Rattle.room_log.specs.Take.{Taken, Nothing, Gap, Takes}
 use Rattle.room_model.specs.Server
-use Rattle.room_model.specs.Server.{Down, Link, Served}
+use Rattle.room_model.specs.Server.{Outbound, Link, Served}
 
 abbrev pub act_from : Served → ℕ → ℕ → Option Update → List ClientMsg → Served
 act_from so_far k a waits [] = so_far
@@ -21,12 +21,12 @@ or_or (Some d) e f = refl
 
 no_more : (x : Served) → Server.then_served x (Server.nothing x.server) ≡ x
 no_more x =
-    ap (λ (os : List (ℕ × Down)). record { server = x.server; outs = os; entry = Server.or_entry x.entry None }) (append-nil x.outs)
+    ap (λ (os : List (ℕ × Outbound)). record { server = x.server; outs = os; entry = Server.or_entry x.entry None }) (append-nil x.outs)
     ∙ ap (λ (e : Option Entry). record { server = x.server; outs = x.outs; entry = e }) (or_none x.entry)
 
 in_turn : (x y z : Served) → Server.then_served (Server.then_served x y) z ≡ Server.then_served x (Server.then_served y z)
 in_turn x y z =
-    ap (λ (os : List (ℕ × Down)). record { server = z.server; outs = os; entry = Server.or_entry (Server.or_entry x.entry y.entry) z.entry }) (append_assoc x.outs y.outs z.outs)
+    ap (λ (os : List (ℕ × Outbound)). record { server = z.server; outs = os; entry = Server.or_entry (Server.or_entry x.entry y.entry) z.entry }) (append_assoc x.outs y.outs z.outs)
     ∙ ap (λ (e : Option Entry). record { server = z.server; outs = x.outs ++ (y.outs ++ z.outs); entry = e }) (or_or x.entry y.entry z.entry)
 
 from_all : (x : Served) (k a : ℕ) (waits : Option Update) (ms : List ClientMsg) → act_from x k a waits ms ≡ Server.then_served x (Server.act_all x.server k a waits ms)

@@ -138,30 +138,30 @@ front_back : (t s : Nodes) (bs rs cs : List Body) → rs ≡ reverse_all t bs �
 front_back t s bs rs cs e r h = fold-append (fold t bs) rs cs ∙ ap (λ u. fold u cs) (ap (fold (fold t bs)) e ∙ r) ∙ h
 
 -- an undo that was done
-pub record BackAs (way : calls.Way) (x : Account) (out : calls.Done) : Type 0 where
+pub record BackAs (direction : calls.Direction) (x : Account) (out : calls.Done) : Type 0 where
   pub none : x.batch ≡ None
   pub entry : List Change
-  pub is_entry : calls.entry_of way x.history ≡ Some entry
-  pub is : calls.went_back way x entry ≡ out
+  pub is_entry : calls.entry_of direction x.history ≡ Some entry
+  pub is : calls.went_back direction x entry ≡ out
 
-as_presence : (way : calls.Way) (x : Account) (e : List Change) (size : ℕ) (out : calls.Done) → calls.back_presence way x e size ≡ Ok (Some out) → calls.went_back way x e ≡ out
-as_presence way x e size out p = some_is (calls.went_back way x e) out (under (nat_lt _ size) _ (Some (calls.went_back way x e)) (Some out) p)
+as_presence : (direction : calls.Direction) (x : Account) (e : List Change) (size : ℕ) (out : calls.Done) → calls.back_presence direction x e size ≡ Ok (Some out) → calls.went_back direction x e ≡ out
+as_presence direction x e size out p = some_is (calls.went_back direction x e) out (under (nat_lt _ size) _ (Some (calls.went_back direction x e)) (Some out) p)
 
-as_sized : (way : calls.Way) (x : Account) (e : List Change) (c : Bool) (fault : calls.UndoFault) (size : ℕ) (out : calls.Done) → cond c (Err fault) (calls.back_presence way x e size) ≡ Ok (Some out) → calls.went_back way x e ≡ out
-as_sized way x e true fault size out p = cc
-as_sized way x e false fault size out p = as_presence way x e size out p
+as_sized : (direction : calls.Direction) (x : Account) (e : List Change) (c : Bool) (fault : calls.UndoFault) (size : ℕ) (out : calls.Done) → cond c (Err fault) (calls.back_presence direction x e size) ≡ Ok (Some out) → calls.went_back direction x e ≡ out
+as_sized direction x e true fault size out p = cc
+as_sized direction x e false fault size out p = as_presence direction x e size out p
 
-as_clocked : (way : calls.Way) (x : Account) (e : List Change) (bs : List Body) (o : Option ℕ) (out : calls.Done) → calls.back_clocked way x e bs o ≡ Ok (Some out) → calls.went_back way x e ≡ out
-as_clocked way x e bs (Some n) out p = cc
-as_clocked way x e bs None out p = as_sized way x e (is_some_list bs && nat_lt _ _) _ (calls.presence_size (calls.entry_presence x.me e)) out p
+as_clocked : (direction : calls.Direction) (x : Account) (e : List Change) (bs : List Body) (o : Option ℕ) (out : calls.Done) → calls.back_clocked direction x e bs o ≡ Ok (Some out) → calls.went_back direction x e ≡ out
+as_clocked direction x e bs (Some n) out p = cc
+as_clocked direction x e bs None out p = as_sized direction x e (is_some_list bs && nat_lt _ _) _ (calls.presence_size (calls.entry_presence x.me e)) out p
 
-as_entry : (way : calls.Way) (x : Account) (o : Option (List Change)) (out : calls.Done) → x.batch ≡ None → calls.entry_of way x.history ≡ o → calls.back_entry way x o ≡ Ok (Some out) → BackAs way x out
-as_entry way x None out n f p = cc
-as_entry way x (Some e) out n f p = record { none = n; entry = e; is_entry = f; is = as_clocked way x e (calls.entry_bodies e) _ out p }
+as_entry : (direction : calls.Direction) (x : Account) (o : Option (List Change)) (out : calls.Done) → x.batch ≡ None → calls.entry_of direction x.history ≡ o → calls.back_entry direction x o ≡ Ok (Some out) → BackAs direction x out
+as_entry direction x None out n f p = cc
+as_entry direction x (Some e) out n f p = record { none = n; entry = e; is_entry = f; is = as_clocked direction x e (calls.entry_bodies e) _ out p }
 
-pub back_as : (way : calls.Way) (x : Account) (o : Option OpenBatch) (out : calls.Done) → x.batch ≡ o → calls.back_at way x o ≡ Ok (Some out) → BackAs way x out
-back_as way x (Some o) out n p = cc
-back_as way x None out n p = as_entry way x (calls.entry_of way x.history) out n refl p
+pub back_as : (direction : calls.Direction) (x : Account) (o : Option OpenBatch) (out : calls.Done) → x.batch ≡ o → calls.back_at direction x o ≡ Ok (Some out) → BackAs direction x out
+back_as direction x (Some o) out n p = cc
+back_as direction x None out n p = as_entry direction x (calls.entry_of direction x.history) out n refl p
 
 -- what is shown, again
 

@@ -17,31 +17,31 @@ use Rattle.room_log.specs.Log.{State, bodies_of}
 use Rattle.room_log.specs.Follows.{IsValidState}
 use Rattle.room_model.specs.Account.{Account, Part, Stage, Idle, Dialled, Connected, Synced, actor, all_bodies, bodies_in, clocks, is_on, issued, last_issued, pending, shown, shown_over, size_of, frame_of_event}
 use Rattle.room_model.specs.Calls as calls
-use Rattle.room_model.specs.Comes
+use Rattle.room_model.specs.Receive
 use Rattle.room_model.specs.Edits.{Edit, EditFault, Made, make}
 use Rattle.room_model.specs.History.{redo_entry}
 use Rattle.room_model.specs.Lines as lines
 use Rattle.room_model.specs.Lines.{Call, Line}
-use Rattle.room_model.specs.Server.{Down, Pong, Message, Closed}
+use Rattle.room_model.specs.Server.{Outbound, Pong, Message, Closed}
 use Rattle.room_model.specs.Sound.{AreValidBodies, AreValidChanges, ClocksRunOn, IsCall, IsLine, IsSound, IsSoundEdit, IsValidTree}
 use Rattle.room_model.specs.World
 use Rattle.room_model.specs.World.{World, Conn, account}
 use Rattle.room_model.specs.Run.{Run, run, line, opened}
 use Rattle.room_laws.specs.Alone.{AlwaysAlone, AreAlone, IsCallAlone, IsOwnMessage, TakesOne, call_count, counted, event_count, if_back, if_done, if_given}
 use Rattle.room_laws.specs.Back.{LeadsBack, Reverses, edit_count, end_count, presence_count}
-use Rattle.room_laws.specs.Events.{Event, Called, Came, Ended, account_or, back_or, called, done_or, down_events, events, first_as, happen, happened, line_events, moved_events, owned_events, took_or, traffic_events}
+use Rattle.room_laws.specs.Events.{Event, Called, Arrived, Ended, account_or, back_or, called, done_or, outbound_events, events, first_as, happen, happened, line_events, moved_events, owned_events, received_or, traffic_events}
 use Rattle.room_laws.specs.Moves.{next_move, where_some}
 use Rattle.room_laws.specs.Open.{brings_none}
 use Rattle.room_laws.specs.Validity.{AreLines, AreSpelled, SoundAccounts}
 use Rattle.room_laws.proofs.Alone.{back_as, shown_same, undoes_alone}
-use Rattle.room_laws.proofs.Bare.{comes_leaves, reaches}
+use Rattle.room_laws.proofs.Bare.{receive_leaves, reaches}
 use Rattle.room_laws.proofs.ClocksKept.{keeps_clocks}
 use Rattle.room_laws.proofs.EditMakes.{made_valid}
 use Rattle.room_laws.proofs.Facts.{ok_is, under}
 use Rattle.room_laws.proofs.Histories.{holds_entry}
-use Rattle.room_laws.proofs.Open.{comes_same, event_at, flushed_same, resent_same}
+use Rattle.room_laws.proofs.Open.{receive_same, event_at, flushed_same, resent_same}
 use Rattle.room_laws.proofs.OwnUpdate.{own_update}
-use Rattle.room_laws.proofs.Seats.{step_after}
+use Rattle.room_laws.proofs.Slots.{step_after}
 use Rattle.room_laws.proofs.SoundCalls.{actor_bound}
 use Rattle.room_laws.proofs.UndoSound.{lines_front, run-append}
 use Rattle.room_laws.proofs.Validity.{changes_append, entry_valid, shown_valid}
@@ -140,68 +140,68 @@ module _ (t : Nodes) where
 
   -- messages
 
-  told_shows : (x : Account) (os : List Op) (u : Nodes) (r : Result ℕ (ℕ × ℕ)) (out : Comes.Took) → ClocksRunOn x → x.confirmed ≡ Some u → Comes.told_by (actor x) (last_issued x) x.told os ≡ r → are_first os (pending x) ≡ true
-      → Comes.update_told x os u r ≡ Ok out → shown out.account ≡ shown x
+  told_shows : (x : Account) (os : List Op) (u : Nodes) (r : Result ℕ (ℕ × ℕ)) (out : Receive.Received) → ClocksRunOn x → x.confirmed ≡ Some u → Receive.told_by (actor x) (last_issued x) x.told os ≡ r → are_first os (pending x) ≡ true
+      → Receive.update_told x os u r ≡ Ok out → shown out.account ≡ shown x
   told_shows x os u (Err f) out runs c i first p = cc
-  told_shows x os u (Ok told) out runs c i first p = ap (λ (z : Comes.Took). shown z.account) (sym (ok_is _ out p)) ∙ own_update x os told u runs c i first
+  told_shows x os u (Ok told) out runs c i first p = ap (λ (z : Receive.Received). shown z.account) (sym (ok_is _ out p)) ∙ own_update x os told u runs c i first
 
-  on_shows : (x : Account) (os : List Op) (o : Option Nodes) (out : Comes.Took) → ClocksRunOn x → x.confirmed ≡ o → are_first os (pending x) ≡ true → Comes.update_on x os o ≡ Ok out → shown out.account ≡ shown x
+  on_shows : (x : Account) (os : List Op) (o : Option Nodes) (out : Receive.Received) → ClocksRunOn x → x.confirmed ≡ o → are_first os (pending x) ≡ true → Receive.update_on x os o ≡ Ok out → shown out.account ≡ shown x
   on_shows x os None out runs c first p = cc
-  on_shows x os (Some u) out runs c first p = told_shows x os u (Comes.told_by (actor x) (last_issued x) x.told os) out runs c refl first p
+  on_shows x os (Some u) out runs c first p = told_shows x os u (Receive.told_by (actor x) (last_issued x) x.told os) out runs c refl first p
 
-  parts_show : (x : Account) (seq : ℕ) (os : List Op) (ps : List Part) (out : Comes.Took) → ClocksRunOn x → are_first os (pending x) ≡ true → Comes.update_synced x seq os ps ≡ Ok out → shown out.account ≡ shown x
-  parts_show x seq os [] out runs first p = on_shows x os x.confirmed out runs refl first (reaches (seq == x.n + 1) _ (Comes.update_on x os x.confirmed) out p)
+  parts_show : (x : Account) (seq : ℕ) (os : List Op) (ps : List Part) (out : Receive.Received) → ClocksRunOn x → are_first os (pending x) ≡ true → Receive.update_synced x seq os ps ≡ Ok out → shown out.account ≡ shown x
+  parts_show x seq os [] out runs first p = on_shows x os x.confirmed out runs refl first (reaches (seq == x.n + 1) _ (Receive.update_on x os x.confirmed) out p)
   parts_show x seq os (q ∷ qs) out runs first p = cc
 
-  update_shows : (x : Account) (seq : ℕ) (os : List Op) (g : Stage) (out : Comes.Took) → ClocksRunOn x → are_first os (pending x) ≡ true → Comes.update_comes x seq os g ≡ Ok out → shown out.account ≡ shown x
+  update_shows : (x : Account) (seq : ℕ) (os : List Op) (g : Stage) (out : Receive.Received) → ClocksRunOn x → are_first os (pending x) ≡ true → Receive.receive_update x seq os g ≡ Ok out → shown out.account ≡ shown x
   update_shows x seq os Idle out runs first p = cc
   update_shows x seq os Dialled out runs first p = cc
   update_shows x seq os Connected out runs first p = cc
   update_shows x seq os Synced out runs first p = parts_show x seq os x.parts out runs first p
 
-  quiet_leads : (k : ℕ) (x : Account) (m : ServerMsg) (out : Comes.Took) → brings_none m ≡ true → Comes.comes x m ≡ Ok out → LeadsBack t k x → LeadsBack t k out.account
-  quiet_leads k x m out b p h = let s = comes_same x m out b p in same_leads k x out.account s.confirmed s.issued s.batch (comes_leaves x m out p).history h
+  quiet_leads : (k : ℕ) (x : Account) (m : ServerMsg) (out : Receive.Received) → brings_none m ≡ true → Receive.receive x m ≡ Ok out → LeadsBack t k x → LeadsBack t k out.account
+  quiet_leads k x m out b p h = let s = receive_same x m out b p in same_leads k x out.account s.confirmed s.issued s.batch (receive_leaves x m out p).history h
 
-  took_leads : (k : ℕ) (x : Account) (m : ServerMsg) (out : Comes.Took) → ClocksRunOn x → LeadsBack t k x → IsOwnMessage x m → Comes.comes x m ≡ Ok out → LeadsBack t k out.account
-  took_leads k x (server.Presence a target patch) out runs h o p = quiet_leads k x (server.Presence a target patch) out refl p h
-  took_leads k x (server.Joined a) out runs h o p = quiet_leads k x (server.Joined a) out refl p h
-  took_leads k x (server.Left a) out runs h o p = quiet_leads k x (server.Left a) out refl p h
-  took_leads k x (server.Broadcast a e) out runs h o p = quiet_leads k x (server.Broadcast a e) out refl p h
-  took_leads k x (server.RoomState a key users) out runs h o p = quiet_leads k x (server.RoomState a key users) out refl p h
-  took_leads k x (server.State seq last items more) out runs h o p = absurd o
-  took_leads k x (server.Update seq os) out runs h o p =
-      let l = comes_leaves x (server.Update seq os) out p in
+  received_leads : (k : ℕ) (x : Account) (m : ServerMsg) (out : Receive.Received) → ClocksRunOn x → LeadsBack t k x → IsOwnMessage x m → Receive.receive x m ≡ Ok out → LeadsBack t k out.account
+  received_leads k x (server.Presence a target patch) out runs h o p = quiet_leads k x (server.Presence a target patch) out refl p h
+  received_leads k x (server.Joined a) out runs h o p = quiet_leads k x (server.Joined a) out refl p h
+  received_leads k x (server.Left a) out runs h o p = quiet_leads k x (server.Left a) out refl p h
+  received_leads k x (server.Broadcast a e) out runs h o p = quiet_leads k x (server.Broadcast a e) out refl p h
+  received_leads k x (server.RoomState a key users) out runs h o p = quiet_leads k x (server.RoomState a key users) out refl p h
+  received_leads k x (server.State seq last items more) out runs h o p = absurd o
+  received_leads k x (server.Update seq os) out runs h o p =
+      let l = receive_leaves x (server.Update seq os) out p in
       undoes_alone.same t k x out.account (update_shows x seq os x.stage out runs o p) l.batch l.history h
 
-  came_leads : (k : ℕ) (x : Account) (m : ServerMsg) (r : Result Comes.Took Comes.FrameFault) → ClocksRunOn x → LeadsBack t k x → IsOwnMessage x m → Comes.comes x m ≡ r → LeadsBack t k (took_or x r)
-  came_leads k x m (Err fault) runs h o p = same_leads k x (calls.lost x) refl refl refl refl h
-  came_leads k x m (Ok out) runs h o p = took_leads k x m out runs h o p
+  receive_leads : (k : ℕ) (x : Account) (m : ServerMsg) (r : Result Receive.Received Receive.FrameFault) → ClocksRunOn x → LeadsBack t k x → IsOwnMessage x m → Receive.receive x m ≡ r → LeadsBack t k (received_or x r)
+  receive_leads k x m (Err fault) runs h o p = same_leads k x (calls.lost x) refl refl refl refl h
+  receive_leads k x m (Ok out) runs h o p = received_leads k x m out runs h o p
 
-  came_runs : (x : Account) (m : ServerMsg) (r : Result Comes.Took Comes.FrameFault) → ClocksRunOn x → Comes.comes x m ≡ r → ClocksRunOn (took_or x r)
-  came_runs x m (Err fault) h p = keeps_clocks.lost x h
-  came_runs x m (Ok out) h p = keeps_clocks.comes x m out h p
+  receive_runs : (x : Account) (m : ServerMsg) (r : Result Receive.Received Receive.FrameFault) → ClocksRunOn x → Receive.receive x m ≡ r → ClocksRunOn (received_or x r)
+  receive_runs x m (Err fault) h p = keeps_clocks.lost x h
+  receive_runs x m (Ok out) h p = keeps_clocks.receive x m out h p
 
   -- what comes down in a line
 
   abbrev NoCalls : List Event → Type 0
   NoCalls [] = Unit {0}
   NoCalls (Called call ∷ es) = ⊥
-  NoCalls (Came m ∷ es) = NoCalls es
+  NoCalls (Arrived m ∷ es) = NoCalls es
   NoCalls (Ended ∷ es) = NoCalls es
 
-  comings_lead : (k : ℕ) (x : Account) (es : List Event) → NoCalls es → ClocksRunOn x → LeadsBack t k x → AreAlone x k es → LeadsBack t (counted x k es) (happen x es)
-  comings_lead k x [] n runs h a = h
-  comings_lead k x (Called call ∷ es) n runs h a = absurd n
-  comings_lead k x (Came m ∷ es) n runs h a = comings_lead k (took_or x (Comes.comes x m)) es n (came_runs x m (Comes.comes x m) runs refl) (came_leads k x m (Comes.comes x m) runs h a.0 refl) a.2
-  comings_lead k x (Ended ∷ es) n runs h a = comings_lead k (calls.lost x) es n (keeps_clocks.lost x runs) (same_leads k x (calls.lost x) refl refl refl refl h) a.2
+  arrivals_lead : (k : ℕ) (x : Account) (es : List Event) → NoCalls es → ClocksRunOn x → LeadsBack t k x → AreAlone x k es → LeadsBack t (counted x k es) (happen x es)
+  arrivals_lead k x [] n runs h a = h
+  arrivals_lead k x (Called call ∷ es) n runs h a = absurd n
+  arrivals_lead k x (Arrived m ∷ es) n runs h a = arrivals_lead k (received_or x (Receive.receive x m)) es n (receive_runs x m (Receive.receive x m) runs refl) (receive_leads k x m (Receive.receive x m) runs h a.0 refl) a.2
+  arrivals_lead k x (Ended ∷ es) n runs h a = arrivals_lead k (calls.lost x) es n (keeps_clocks.lost x runs) (same_leads k x (calls.lost x) refl refl refl refl h) a.2
 
   no_calls_append : (es fs : List Event) → NoCalls es → NoCalls fs → NoCalls (es ++ fs)
   no_calls_append [] fs h k = k
   no_calls_append (Called call ∷ es) fs h k = absurd h
-  no_calls_append (Came m ∷ es) fs h k = no_calls_append es fs h k
+  no_calls_append (Arrived m ∷ es) fs h k = no_calls_append es fs h k
   no_calls_append (Ended ∷ es) fs h k = no_calls_append es fs h k
 
-  first_calls_none : (ms : List Down) → NoCalls (first_as ms)
+  first_calls_none : (ms : List Outbound) → NoCalls (first_as ms)
   first_calls_none [] = tt
   first_calls_none (Pong ∷ ms) = tt
   first_calls_none (Message m ∷ ms) = tt
@@ -211,17 +211,17 @@ module _ (t : Nodes) where
   if_none true es h = h
   if_none false es h = tt
 
-  owned_none : (c : ℕ) (o : Option ℕ) (ms : List Down) → NoCalls (owned_events c o ms)
+  owned_none : (c : ℕ) (o : Option ℕ) (ms : List Outbound) → NoCalls (owned_events c o ms)
   owned_none c None ms = tt
   owned_none c (Some d) ms = if_none (d == c) (first_as ms) (first_calls_none ms)
 
-  down_none : (c : ℕ) (o : Option Conn) → NoCalls (down_events c o)
-  down_none c None = tt
-  down_none c (Some q) = owned_none c q.owner q.down
+  outbound_none : (c : ℕ) (o : Option Conn) → NoCalls (outbound_events c o)
+  outbound_none c None = tt
+  outbound_none c (Some q) = owned_none c q.owner q.outbound
 
   traffic_none : (w : World) (c k : ℕ) (traffic : lines.Traffic) → NoCalls (traffic_events w c k traffic)
-  traffic_none w c k lines.GoesUp = tt
-  traffic_none w c k lines.ComesDown = down_none c (get w.conns k)
+  traffic_none w c k lines.Up = tt
+  traffic_none w c k lines.Down = outbound_none c (get w.conns k)
   traffic_none w c k lines.Gone = tt
   traffic_none w c k (lines.Raw text) = tt
 
@@ -244,9 +244,9 @@ module _ (t : Nodes) where
       → LeadsBack t (counted (account w c) k (line_events w c number l)) (happen (account w c) (line_events w c number l))
   line_leads k w c number (lines.OfClient d call) s i h a = own_leads k (account w c) call (d == c) s i.1 h a
   line_leads k w c number (lines.AsksClient d question) s i h a = h
-  line_leads k w c number (lines.OfConnection j traffic) s i h a = comings_lead k (account w c) (traffic_events w c j traffic) (traffic_none w c j traffic) s.own.runs h a
+  line_leads k w c number (lines.OfConnection j traffic) s i h a = arrivals_lead k (account w c) (traffic_events w c j traffic) (traffic_none w c j traffic) s.own.runs h a
   line_leads k w c number (lines.OfServer service) s i h a = h
-  line_leads k w c number (lines.Drain n) s i h a = comings_lead k (account w c) (moved_events n w number c) (moved_none n w number c) s.own.runs h a
+  line_leads k w c number (lines.Drain n) s i h a = arrivals_lead k (account w c) (moved_events n w number c) (moved_none n w number c) s.own.runs h a
   line_leads k w c number lines.Link s i h a = h
 
 alone_front : (x : Account) (k : ℕ) (es fs : List Event) → AreAlone x k (es ++ fs) → AreAlone x k es

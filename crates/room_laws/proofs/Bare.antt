@@ -14,19 +14,19 @@ use Rattle.room_msg.specs.declared.messages.ServerMsg.TheVariants as server
 use Rattle.room_log.specs.Log.{State, bodies_of}
 use Rattle.room_model.specs.Account.{Account, OpenBatch, Part, Stage, Idle, Dialled, Connected, Synced, actor, last_issued, is_on, size_of, frame_of_event}
 use Rattle.room_model.specs.Calls as calls
-use Rattle.room_model.specs.Comes
+use Rattle.room_model.specs.Receive
 use Rattle.room_model.specs.Edits.{Made, fields_most}
 use Rattle.room_model.specs.Lines.{Line}
 use Rattle.room_model.specs.World
-use Rattle.room_model.specs.World.{Seat, seat_in, account}
+use Rattle.room_model.specs.World.{Slot, slot_in, account}
 use Rattle.room_model.specs.Run.{run, opened}
-use Rattle.room_laws.specs.Events.{Event, Called, Came, Ended, happened, happen, events}
+use Rattle.room_laws.specs.Events.{Event, Called, Arrived, Ended, happened, happen, events}
 use Rattle.room_laws.proofs.Alone.{back_as}
 use Rattle.room_laws.proofs.Facts.{ok_is, over, under}
 use Rattle.room_laws.proofs.Happens.{Keeps, keeps_event}
 use Rattle.room_laws.proofs.Maps.{get_none}
 use Rattle.room_laws.proofs.Open.{edit_as, entry-append, no_bodies, flushed_same, resent_same, event_at}
-use Rattle.room_laws.proofs.Seats.{follows_events}
+use Rattle.room_laws.proofs.Slots.{follows_events}
 
 abbrev pub Bare : Option OpenBatch → Type 0
 Bare None = Unit {0}
@@ -48,67 +48,67 @@ pub reaches : {A E : Type 0} (b : Bool) (e : E) (r : Result A E) (y : A) → con
 reaches true e r y p = p
 reaches false e r y p = cc
 
-pub record Leaves (x : Account) (out : Comes.Took) : Type 0 where
+pub record Leaves (x : Account) (out : Receive.Received) : Type 0 where
   pub batch : out.account.batch ≡ x.batch
   pub history : out.account.history ≡ x.history
 
-as_took : (x : Account) (a out : Comes.Took) → ◌≡◌ {A = Result Comes.Took Comes.FrameFault} (Ok a) (Ok out) → Leaves x a → Leaves x out
-as_took x a out p h = subst (Leaves x) (ok_is a out p) h
+as_received : (x : Account) (a out : Receive.Received) → ◌≡◌ {A = Result Receive.Received Receive.FrameFault} (Ok a) (Ok out) → Leaves x a → Leaves x out
+as_received x a out p h = subst (Leaves x) (ok_is a out p) h
 
-load_leaves : (x : Account) (seq last : ℕ) (t : Nodes) (o : Option (ℕ × ℕ)) (out : Comes.Took) → Comes.load_at x seq last t o ≡ Ok out → Leaves x out
+load_leaves : (x : Account) (seq last : ℕ) (t : Nodes) (o : Option (ℕ × ℕ)) (out : Receive.Received) → Receive.load_at x seq last t o ≡ Ok out → Leaves x out
 load_leaves x seq last t (Some f) out p = cc
-load_leaves x seq last t None out p = as_took x (Comes.loaded x seq last t) out p (record { batch = refl; history = refl })
+load_leaves x seq last t None out p = as_received x (Receive.loaded x seq last t) out p (record { batch = refl; history = refl })
 
-tree_leaves : (x : Account) (seq last : ℕ) (o : Option Nodes) (out : Comes.Took) → Comes.load x seq last o ≡ Ok out → Leaves x out
+tree_leaves : (x : Account) (seq last : ℕ) (o : Option Nodes) (out : Receive.Received) → Receive.load x seq last o ≡ Ok out → Leaves x out
 tree_leaves x seq last None out p = cc
-tree_leaves x seq last (Some t) out p = load_leaves x seq last t (Comes.state_fault x seq last) out p
+tree_leaves x seq last (Some t) out p = load_leaves x seq last t (Receive.state_fault x seq last) out p
 
-part_leaves : (x : Account) (seq last : ℕ) (items : List Value) (more : Bool) (o : Option (ℕ × ℕ)) (out : Comes.Took) → Comes.part_comes x seq last items more o ≡ Ok out → Leaves x out
+part_leaves : (x : Account) (seq last : ℕ) (items : List Value) (more : Bool) (o : Option (ℕ × ℕ)) (out : Receive.Received) → Receive.receive_part x seq last items more o ≡ Ok out → Leaves x out
 part_leaves x seq last items more (Some f) out p = cc
-part_leaves x seq last items true None out p = as_took x (Comes.keeps_part x seq last items) out p (record { batch = refl; history = refl })
-part_leaves x seq last items false None out p = tree_leaves x seq last (tree_in (Comes.parts_items x.parts ++ items)) out p
+part_leaves x seq last items true None out p = as_received x (Receive.keeps_part x seq last items) out p (record { batch = refl; history = refl })
+part_leaves x seq last items false None out p = tree_leaves x seq last (tree_in (Receive.parts_items x.parts ++ items)) out p
 
-told_leaves : (x : Account) (os : List Op) (t : Nodes) (r : Result ℕ (ℕ × ℕ)) (out : Comes.Took) → Comes.update_told x os t r ≡ Ok out → Leaves x out
+told_leaves : (x : Account) (os : List Op) (t : Nodes) (r : Result ℕ (ℕ × ℕ)) (out : Receive.Received) → Receive.update_told x os t r ≡ Ok out → Leaves x out
 told_leaves x os t (Err f) out p = cc
-told_leaves x os t (Ok told) out p = as_took x _ out p (record { batch = refl; history = refl })
+told_leaves x os t (Ok told) out p = as_received x _ out p (record { batch = refl; history = refl })
 
-on_leaves : (x : Account) (os : List Op) (o : Option Nodes) (out : Comes.Took) → Comes.update_on x os o ≡ Ok out → Leaves x out
+on_leaves : (x : Account) (os : List Op) (o : Option Nodes) (out : Receive.Received) → Receive.update_on x os o ≡ Ok out → Leaves x out
 on_leaves x os None out p = cc
-on_leaves x os (Some t) out p = told_leaves x os t (Comes.told_by (actor x) (last_issued x) x.told os) out p
+on_leaves x os (Some t) out p = told_leaves x os t (Receive.told_by (actor x) (last_issued x) x.told os) out p
 
-synced_leaves : (x : Account) (seq : ℕ) (os : List Op) (ps : List Part) (out : Comes.Took) → Comes.update_synced x seq os ps ≡ Ok out → Leaves x out
-synced_leaves x seq os [] out p = on_leaves x os x.confirmed out (reaches (seq == x.n + 1) _ (Comes.update_on x os x.confirmed) out p)
+synced_leaves : (x : Account) (seq : ℕ) (os : List Op) (ps : List Part) (out : Receive.Received) → Receive.update_synced x seq os ps ≡ Ok out → Leaves x out
+synced_leaves x seq os [] out p = on_leaves x os x.confirmed out (reaches (seq == x.n + 1) _ (Receive.update_on x os x.confirmed) out p)
 synced_leaves x seq os (q ∷ ps) out p = cc
 
-update_leaves : (x : Account) (seq : ℕ) (os : List Op) (g : Stage) (out : Comes.Took) → Comes.update_comes x seq os g ≡ Ok out → Leaves x out
+update_leaves : (x : Account) (seq : ℕ) (os : List Op) (g : Stage) (out : Receive.Received) → Receive.receive_update x seq os g ≡ Ok out → Leaves x out
 update_leaves x seq os Idle out p = cc
 update_leaves x seq os Dialled out p = cc
 update_leaves x seq os Connected out p = cc
 update_leaves x seq os Synced out p = synced_leaves x seq os x.parts out p
 
-once_leaves : (x : Account) (kind : ℕ) (a out : Comes.Took) → Leaves x a → Comes.once_on x kind a ≡ Ok out → Leaves x out
+once_leaves : (x : Account) (kind : ℕ) (a out : Receive.Received) → Leaves x a → Receive.once_on x kind a ≡ Ok out → Leaves x out
 once_leaves x kind a out h p = subst (Leaves x) (over (is_on x.stage) _ a out p) h
 
-named_leaves : (x : Account) (a key : ℕ) (o : Option Resume) (out : Comes.Took) → Comes.welcomed_as x a key o ≡ Ok out → Leaves x out
-named_leaves x a key None out p = as_took x (Comes.welcomed x a key) out p (record { batch = refl; history = refl })
-named_leaves x a key (Some w) out p = subst (Leaves x) (over (w.actor == a) _ (Comes.welcomed x a key) out p) (record { batch = refl; history = refl })
+named_leaves : (x : Account) (a key : ℕ) (o : Option Resume) (out : Receive.Received) → Receive.welcomed_as x a key o ≡ Ok out → Leaves x out
+named_leaves x a key None out p = as_received x (Receive.welcomed x a key) out p (record { batch = refl; history = refl })
+named_leaves x a key (Some w) out p = subst (Leaves x) (over (w.actor == a) _ (Receive.welcomed x a key) out p) (record { batch = refl; history = refl })
 
-room_leaves : (x : Account) (a key : ℕ) (g : Stage) (out : Comes.Took) → Comes.room_comes x a key g ≡ Ok out → Leaves x out
+room_leaves : (x : Account) (a key : ℕ) (g : Stage) (out : Receive.Received) → Receive.receive_room x a key g ≡ Ok out → Leaves x out
 room_leaves x a key Dialled out p = named_leaves x a key x.session out p
 room_leaves x a key Idle out p = cc
 room_leaves x a key Connected out p = cc
 room_leaves x a key Synced out p = cc
 
-pub comes_leaves : (x : Account) (m : ServerMsg) (out : Comes.Took) → Comes.comes x m ≡ Ok out → Leaves x out
-comes_leaves x (server.Presence a None patch) out p = once_leaves x 100 (Comes.took (Comes.presence_taken x a None patch)) out (record { batch = refl; history = refl }) p
-comes_leaves x (server.Presence a (Some target) patch) out p = once_leaves x 100 (Comes.took (Comes.presence_taken x a (Some target) patch)) out (record { batch = refl; history = refl }) p
-comes_leaves x (server.Joined a) out p = once_leaves x 101 _ out (record { batch = refl; history = refl }) p
-comes_leaves x (server.Left a) out p = once_leaves x 102 _ out (record { batch = refl; history = refl }) p
-comes_leaves x (server.Broadcast a e) out p = once_leaves x 103 _ out (record { batch = refl; history = refl }) p
-comes_leaves x (server.RoomState a key users) out p = room_leaves x a key x.stage out p
-comes_leaves x (server.State seq last items more) out p =
-    part_leaves x seq last items more (Comes.other_parts x.parts seq last) out (through (not (is_on x.stage)) _ (Comes.part_comes x seq last items more (Comes.other_parts x.parts seq last)) out p)
-comes_leaves x (server.Update seq os) out p = update_leaves x seq os x.stage out p
+pub receive_leaves : (x : Account) (m : ServerMsg) (out : Receive.Received) → Receive.receive x m ≡ Ok out → Leaves x out
+receive_leaves x (server.Presence a None patch) out p = once_leaves x 100 (Receive.received (Receive.presence_taken x a None patch)) out (record { batch = refl; history = refl }) p
+receive_leaves x (server.Presence a (Some target) patch) out p = once_leaves x 100 (Receive.received (Receive.presence_taken x a (Some target) patch)) out (record { batch = refl; history = refl }) p
+receive_leaves x (server.Joined a) out p = once_leaves x 101 _ out (record { batch = refl; history = refl }) p
+receive_leaves x (server.Left a) out p = once_leaves x 102 _ out (record { batch = refl; history = refl }) p
+receive_leaves x (server.Broadcast a e) out p = once_leaves x 103 _ out (record { batch = refl; history = refl }) p
+receive_leaves x (server.RoomState a key users) out p = room_leaves x a key x.stage out p
+receive_leaves x (server.State seq last items more) out p =
+    part_leaves x seq last items more (Receive.other_parts x.parts seq last) out (through (not (is_on x.stage)) _ (Receive.receive_part x seq last items more (Receive.other_parts x.parts seq last)) out p)
+receive_leaves x (server.Update seq os) out p = update_leaves x seq os x.stage out p
 
 -- calls
 
@@ -131,8 +131,8 @@ ended_bare : (x : Account) (out : calls.Done) (o : Option OpenBatch) → calls.e
 ended_bare x out None p = cc
 ended_bare x out (Some o) p = subst (λ (d : calls.Done). IsBare d.account) (ok_is (calls.closed x o) out p) tt
 
-back_bare : (way : calls.Way) (x : Account) (out : calls.Done) → IsBare x → calls.go_back way x ≡ Ok (Some out) → IsBare out.account
-back_bare way x out h p = let a = back_as way x x.batch out refl p in subst (λ (d : calls.Done). IsBare d.account) a.is h
+back_bare : (direction : calls.Direction) (x : Account) (out : calls.Done) → IsBare x → calls.go_back direction x ≡ Ok (Some out) → IsBare out.account
+back_bare direction x out h p = let a = back_as direction x x.batch out refl p in subst (λ (d : calls.Done). IsBare d.account) a.is h
 
 patched_bare : (back : List Change) (patch : List (List ℕ × Value)) (o : Option OpenBatch) → calls.entry_bodies back ≡ [] → Bare o → Bare (calls.open_patched back patch o)
 patched_bare back patch None e h = tt
@@ -159,12 +159,12 @@ keeps_bare = record {
   resent = λ x h. stays x (calls.resent x) (resent_same x x.stage refl).batch h;
   lost = λ x h. h;
   dialled = λ x h. h;
-  comes = λ x m out a h p. stays x out.account (comes_leaves x m out p).batch h;
+  receive = λ x m out a h p. stays x out.account (receive_leaves x m out p).batch h;
 }
 
 event_bare : (x : Account) (e : Event) → IsBare x → IsBare (happened x e)
 event_bare x (Called call) h = keeps_event IsBare (λ c. Unit {0}) (λ m. Unit {0}) keeps_bare x (Called call) tt h
-event_bare x (Came m) h = keeps_event IsBare (λ c. Unit {0}) (λ m. Unit {0}) keeps_bare x (Came m) tt h
+event_bare x (Arrived m) h = keeps_event IsBare (λ c. Unit {0}) (λ m. Unit {0}) keeps_bare x (Arrived m) tt h
 event_bare x Ended h = h
 
 happen_bare : (x : Account) (es : List Event) → IsBare x → IsBare (happen x es)
@@ -173,4 +173,4 @@ happen_bare x (e ∷ es) h = happen_bare (happened x e) es (event_bare x e h)
 
 pub always_bare : (s : State) (ls : List (ℕ × Line)) (c : ℕ) → Bare (account (run (opened s) ls).world c).batch
 always_bare s ls c = subst IsBare (sym (follows_events (opened s) c ls)) (happen_bare (account (World.opening s) c) (events (World.opening s) c ls)
-    (subst (λ (o : Option Seat). Bare (seat_in o).account.batch) (sym (get_none c)) tt))
+    (subst (λ (o : Option Slot). Bare (slot_in o).account.batch) (sym (get_none c)) tt))

@@ -7,7 +7,7 @@ use Rattle.room_model.specs.Account.{Account}
 use Rattle.room_model.specs.Calls as calls
 use Rattle.room_model.specs.Lines as lines
 use Rattle.room_model.specs.World
-use Rattle.room_model.specs.World.{seat}
+use Rattle.room_model.specs.World.{slot}
 use Rattle.room_model.specs.Run.{Run, with_step}
 use Rattle.room_laws.specs.Core.{core}
 use Rattle.room_laws.specs.Invariant
@@ -16,8 +16,8 @@ use Rattle.room_laws.proofs.Edits.{edit_called, begin_called, end_called, back_c
 use Rattle.room_laws.proofs.OwnLines.{keeps_saying, keeps_account, keeps_done, keeps_flush, keeps_resend, keeps_cut_line, keeps_dial_line}
 
 module _ (s : State) (r : Run) (number c : ℕ) (st : Invariant.Inv s r) where
-  abbrev p : World.Seat
-  p = seat r.world c
+  abbrev p : World.Slot
+  p = slot r.world c
 
   refused : (ls : List (List ℕ)) → Invariant.Inv s (with_step r (World.refuses r.world number ls))
   refused ls = keeps_saying s r (lines.refused_line number ls ∷ []) st
@@ -34,7 +34,7 @@ module _ (s : State) (r : Run) (number c : ℕ) (st : Invariant.Inv s r) where
   ends (Err fault) i = refused (lines.batch_fault_words fault)
   ends (Ok d) i = keeps_done s r c st d p.noticed (end_called p.account _ d i)
 
-  backs : (way : calls.Way) (out : Result (Option calls.Done) calls.UndoFault) → calls.go_back way p.account ≡ out → Invariant.Inv s (with_step r (World.back_out r.world number c p out))
+  backs : (way : calls.Direction) (out : Result (Option calls.Done) calls.UndoFault) → calls.go_back way p.account ≡ out → Invariant.Inv s (with_step r (World.back_out r.world number c p out))
   backs way (Err fault) i = refused (lines.undo_fault_words fault)
   backs way (Ok None) i = keeps_saying s r (lines.nothing_line number ∷ []) st
   backs way (Ok (Some d)) i = keeps_done s r c st d d.notices (back_called way p.account _ d i)

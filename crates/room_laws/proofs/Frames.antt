@@ -28,8 +28,8 @@ same_room : bytes_eq room room ≡ true
 same_room = refl
 
 -- the frame of an attached connection
-serve_is : (v : Server.Server) (k : ℕ) (up : Server.Up) (l : Server.Link) → get v.links k ≡ Some l → Server.serve v k up ≡ Server.frame_at v k l up
-serve_is v k up l e = ap (Server.serve_from v k up) e
+serve_is : (v : Server.Server) (k : ℕ) (inbound : Server.Inbound) (l : Server.Link) → get v.links k ≡ Some l → Server.serve v k inbound ≡ Server.frame_at v k l inbound
+serve_is v k inbound l e = ap (Server.serve_from v k inbound) e
 
 decided : (v : Server.Server) (h : Hello) → v.access ≡ None → Server.decision_of v h v.access ≡ None
 decided v h e = ap (Server.decision_of v h) e

@@ -7,10 +7,10 @@ use Rattle.room_msg.specs.declared.messages.ServerMsg.{ServerMsg}
 use Rattle.room_model.specs.Account.{Account}
 use Rattle.room_model.specs.Edits.{Edit}
 use Rattle.room_model.specs.Calls as calls
-use Rattle.room_model.specs.Comes.{Took, FrameFault, comes}
+use Rattle.room_model.specs.Receive.{Received, FrameFault, receive}
 use Rattle.room_model.specs.Lines as lines
 use Rattle.room_model.specs.Lines.{Call}
-use Rattle.room_laws.specs.Events.{Event, Called, Came, Ended, happened, done_or, account_or, back_or, took_or}
+use Rattle.room_laws.specs.Events.{Event, Called, Arrived, Ended, happened, done_or, account_or, back_or, received_or}
 
 -- where the calls are as C says and the messages as M says
 pub record Keeps (P : Account → Type 0) (C : Call → Type 0) (M : ServerMsg → Type 0) : Type 0 where
@@ -28,11 +28,11 @@ pub record Keeps (P : Account → Type 0) (C : Call → Type 0) (M : ServerMsg �
   pub resent : (x : Account) → P x → P (calls.resent x)
   pub lost : (x : Account) → P x → P (calls.lost x)
   pub dialled : (x : Account) → P x → P (calls.dialled x)
-  pub comes : (x : Account) (m : ServerMsg) (out : Took) → M m → P x → comes x m ≡ Ok out → P out.account
+  pub receive : (x : Account) (m : ServerMsg) (out : Received) → M m → P x → receive x m ≡ Ok out → P out.account
 
 abbrev pub Allows : (Call → Type 0) → (ServerMsg → Type 0) → Event → Type 0
 Allows C M (Called call) = C call
-Allows C M (Came m) = M m
+Allows C M (Arrived m) = M m
 Allows C M Ended = Unit {0}
 
 module _ (P : Account → Type 0) (C : Call → Type 0) (M : ServerMsg → Type 0) (keep : Keeps P C M) where
@@ -49,9 +49,9 @@ module _ (P : Account → Type 0) (C : Call → Type 0) (M : ServerMsg → Type 
   back x (Ok None) h f = h
   back x (Ok (Some out)) h f = f out refl
 
-  took : (x : Account) (m : ServerMsg) (r : Result Took FrameFault) → M m → P x → comes x m ≡ r → P (took_or x r)
-  took x m (Err fault) a h e = keep.lost x h
-  took x m (Ok out) a h e = keep.comes x m out a h e
+  received : (x : Account) (m : ServerMsg) (r : Result Received FrameFault) → M m → P x → receive x m ≡ r → P (received_or x r)
+  received x m (Err fault) a h e = keep.lost x h
+  received x m (Ok out) a h e = keep.receive x m out a h e
 
   pub keeps_event : (x : Account) (e : Event) → Allows C M e → P x → P (happened x e)
   keeps_event x (Called lines.Dial) a h = keep.dialled x h
@@ -68,5 +68,5 @@ module _ (P : Account → Type 0) (C : Call → Type 0) (M : ServerMsg → Type 
   keeps_event x (Called lines.Flush) a h = keep.flushed x h
   keeps_event x (Called lines.Resend) a h = keep.resent x h
   keeps_event x (Called lines.Cut) a h = keep.lost x h
-  keeps_event x (Came m) a h = took x m (comes x m) a h refl
+  keeps_event x (Arrived m) a h = received x m (receive x m) a h refl
   keeps_event x Ended a h = keep.lost x h

@@ -10,15 +10,15 @@ use Rattle.room_log.specs.Log.{State, bodies_of}
 use Rattle.room_log.specs.Follows.{IsValidState}
 use Rattle.room_model.specs.Account.{Account, Batch, OpenBatch, shown}
 use Rattle.room_model.specs.Calls as calls
-use Rattle.room_model.specs.Comes
+use Rattle.room_model.specs.Receive
 use Rattle.room_model.specs.Edits.{Edit, EditFault, Made}
 use Rattle.room_model.specs.Lines as lines
 use Rattle.room_model.specs.Lines.{Line}
 use Rattle.room_model.specs.Server
-use Rattle.room_model.specs.Server.{Down, Pong, Message, Closed, Up, Served}
+use Rattle.room_model.specs.Server.{Outbound, Pong, Message, Closed, Inbound, Served}
 use Rattle.room_model.specs.Sound.{AreValidBatches, AreValidBodies, IsCall, IsLine, IsSound}
 use Rattle.room_model.specs.World
-use Rattle.room_model.specs.World.{World, Conn, Host, Running, Stopped, Stepped, seat, account}
+use Rattle.room_model.specs.World.{World, Conn, Host, Running, Stopped, Stepped, slot, account}
 use Rattle.room_model.specs.Run.{Run, run, line, opened, issued_of}
 use Rattle.room_laws.specs.Accounts.{KeepsSound}
 use Rattle.room_laws.specs.Ledger.{In}
@@ -63,39 +63,39 @@ end_issues : (x : Account) (out : calls.Done) (o : Option OpenBatch) → calls.e
 end_issues x out None p h = cc
 end_issues x out (Some o) p h = subst (λ (d : calls.Done). IsSound d.account → AreValidBatches d.issues) (ok_is (calls.closed x o) out p) (closed_issues x o) h
 
-went_issues : (way : calls.Way) (x : Account) (e : List Change) → IsSound (calls.went_back way x e).account → AreValidBatches (calls.issues_of x (calls.entry_bodies e))
-went_issues way x e h = valid_back x.fresh (calls.issues_of x (calls.entry_bodies e)) (valid_back x.sent (x.fresh ++ calls.issues_of x (calls.entry_bodies e)) h.own.closed)
+went_issues : (direction : calls.Direction) (x : Account) (e : List Change) → IsSound (calls.went_back direction x e).account → AreValidBatches (calls.issues_of x (calls.entry_bodies e))
+went_issues direction x e h = valid_back x.fresh (calls.issues_of x (calls.entry_bodies e)) (valid_back x.sent (x.fresh ++ calls.issues_of x (calls.entry_bodies e)) h.own.closed)
 
-back_issues : (way : calls.Way) (x : Account) (out : calls.Done) → calls.go_back way x ≡ Ok (Some out) → IsSound out.account → AreValidBatches out.issues
-back_issues way x out p h =
-    let a = back_as way x x.batch out refl p in
-    subst (λ (d : calls.Done). IsSound d.account → AreValidBatches d.issues) a.is (went_issues way x a.entry) h
+back_issues : (direction : calls.Direction) (x : Account) (out : calls.Done) → calls.go_back direction x ≡ Ok (Some out) → IsSound out.account → AreValidBatches out.issues
+back_issues direction x out p h =
+    let a = back_as direction x x.batch out refl p in
+    subst (λ (d : calls.Done). IsSound d.account → AreValidBatches d.issues) a.is (went_issues direction x a.entry) h
 
 -- a line of a client
 
 module _ (keep : KeepsSound) (w : World) (n c : ℕ) (sound : IsSound (account w c)) where
-  edits : (e : Edit) (r : Result calls.Done EditFault) → IsCall (lines.Edits e) → calls.edit (account w c) e ≡ r → Each (World.edit_out w n c (seat w c) r).issues
+  edits : (e : Edit) (r : Result calls.Done EditFault) → IsCall (lines.Edits e) → calls.edit (account w c) e ≡ r → Each (World.edit_out w n c (slot w c) r).issues
   edits e (Err fault) i p = tt
   edits e (Ok out) i p = each_of c out.issues (edit_issues (account w c) e out p (keep.edit (account w c) e out sound i p))
 
-  begins : (r : Result Account calls.BatchFault) → Each (World.begin_out w n c (seat w c) r).issues
+  begins : (r : Result Account calls.BatchFault) → Each (World.begin_out w n c (slot w c) r).issues
   begins (Err fault) = tt
   begins (Ok y) = tt
 
-  ends : (r : Result calls.Done calls.BatchFault) → calls.batch_end (account w c) ≡ r → Each (World.end_out w n c (seat w c) r).issues
+  ends : (r : Result calls.Done calls.BatchFault) → calls.batch_end (account w c) ≡ r → Each (World.end_out w n c (slot w c) r).issues
   ends (Err fault) p = tt
   ends (Ok out) p = each_of c out.issues (end_issues (account w c) out (account w c).batch p (keep.batch_end (account w c) out sound p))
 
-  backs : (way : calls.Way) (r : Result (Option calls.Done) calls.UndoFault) → calls.go_back way (account w c) ≡ r → Each (World.back_out w n c (seat w c) r).issues
-  backs way (Err fault) p = tt
-  backs way (Ok None) p = tt
-  backs way (Ok (Some out)) p = each_of c out.issues (back_issues way (account w c) out p (keep.go_back way (account w c) out sound p))
+  backs : (direction : calls.Direction) (r : Result (Option calls.Done) calls.UndoFault) → calls.go_back direction (account w c) ≡ r → Each (World.back_out w n c (slot w c) r).issues
+  backs direction (Err fault) p = tt
+  backs direction (Ok None) p = tt
+  backs direction (Ok (Some out)) p = each_of c out.issues (back_issues direction (account w c) out p (keep.go_back direction (account w c) out sound p))
 
-  says : (r : Result Account calls.SayFault) → Each (World.say_out w n c (seat w c) r).issues
+  says : (r : Result Account calls.SayFault) → Each (World.say_out w n c (slot w c) r).issues
   says (Err fault) = tt
   says (Ok y) = tt
 
-  call_issues : (call : lines.Call) → IsCall call → Each (World.client_calls w n c (seat w c) call).issues
+  call_issues : (call : lines.Call) → IsCall call → Each (World.client_calls w n c (slot w c) call).issues
   call_issues lines.Dial i = tt
   call_issues (lines.Edits e) i = edits e (calls.edit (account w c) e) i refl
   call_issues lines.Begin i = begins (calls.batch_begin (account w c))
@@ -121,44 +121,44 @@ answers : (w : World) (v : Server.Server) (k : ℕ) (out : Served) (b : World.Bu
 answers w v k out (World.Intact f) = tt
 answers w v k out (World.Fires call how) = fires w (World.entries_in out.entry) (World.is_kept call how) (World.state_with v.state out.entry) v.state
 
-up_from : (w : World) (k : ℕ) (g : Host) (q : Conn) (us : List Up) → Each (World.up_from w k g q us).issues
-up_from w k (Running v) q (u ∷ us) = answers (World.with_conn w k (record q { up = us })) v k (Server.serve v k u) (World.burn (World.commit_calls (Server.serve v k u).entry) w.fuse)
-up_from w k (Running v) q [] = tt
-up_from w k (Stopped s) q us = tt
+inbound_from : (w : World) (k : ℕ) (g : Host) (q : Conn) (us : List Inbound) → Each (World.inbound_from w k g q us).issues
+inbound_from w k (Running v) q (u ∷ us) = answers (World.with_conn w k (record q { inbound = us })) v k (Server.serve v k u) (World.burn (World.commit_calls (Server.serve v k u).entry) w.fuse)
+inbound_from w k (Running v) q [] = tt
+inbound_from w k (Stopped s) q us = tt
 
-goes_up : (w : World) (k : ℕ) (o : Option Conn) → Each (World.up_at w k o).issues
-goes_up w k None = tt
-goes_up w k (Some q) = up_from w k w.host q q.up
+server_receives : (w : World) (k : ℕ) (o : Option Conn) → Each (World.inbound_at w k o).issues
+server_receives w k None = tt
+server_receives w k (Some q) = inbound_from w k w.host q q.inbound
 
-frame_issues : (w : World) (n c k : ℕ) (p : World.Seat) (r : Result Comes.Took Comes.Refusal) → Each (World.frame_taken w n c k p r).issues
+frame_issues : (w : World) (n c k : ℕ) (p : World.Slot) (r : Result Receive.Received Receive.Refusal) → Each (World.frame_taken w n c k p r).issues
 frame_issues w n c k p (Err out) = tt
 frame_issues w n c k p (Ok out) = tt
 
-takes : (w : World) (n c k : ℕ) (p : World.Seat) (m : Down) → Each (World.client_takes w n c k p m).issues
+takes : (w : World) (n c k : ℕ) (p : World.Slot) (m : Outbound) → Each (World.client_takes w n c k p m).issues
 takes w n c k p Pong = tt
-takes w n c k p (Message m) = frame_issues w n c k p (Comes.frame_comes p.account (Msgs (m ∷ [])))
+takes w n c k p (Message m) = frame_issues w n c k p (Receive.receive_frame p.account (Msgs (m ∷ [])))
 takes w n c k p (Closed code text) = tt
 
-link_takes : (w : World) (k : ℕ) (m : Down) → Each (World.link_takes w k m).issues
+link_takes : (w : World) (k : ℕ) (m : Outbound) → Each (World.link_takes w k m).issues
 link_takes w k Pong = tt
 link_takes w k (Message m) = tt
 link_takes w k (Closed code text) = tt
 
-owner_takes : (w : World) (n k : ℕ) (m : Down) (o : Option ℕ) → Each (World.owner_takes w n k m o).issues
+owner_takes : (w : World) (n k : ℕ) (m : Outbound) (o : Option ℕ) → Each (World.owner_takes w n k m o).issues
 owner_takes w n k m None = link_takes w k m
-owner_takes w n k m (Some c) = takes w n c k (seat w c) m
+owner_takes w n k m (Some c) = takes w n c k (slot w c) m
 
-down_from : (w : World) (n k : ℕ) (q : Conn) (ms : List Down) → Each (World.down_from w n k q ms).issues
-down_from w n k q [] = tt
-down_from w n k q (m ∷ ms) = owner_takes (World.with_conn w k (record q { down = ms })) n k m q.owner
+outbound_from : (w : World) (n k : ℕ) (q : Conn) (ms : List Outbound) → Each (World.outbound_from w n k q ms).issues
+outbound_from w n k q [] = tt
+outbound_from w n k q (m ∷ ms) = owner_takes (World.with_conn w k (record q { outbound = ms })) n k m q.owner
 
-comes_down : (w : World) (n k : ℕ) (o : Option Conn) → Each (World.down_at w n k o).issues
-comes_down w n k None = tt
-comes_down w n k (Some q) = down_from w n k q q.down
+peer_receives : (w : World) (n k : ℕ) (o : Option Conn) → Each (World.outbound_at w n k o).issues
+peer_receives w n k None = tt
+peer_receives w n k (Some q) = outbound_from w n k q q.outbound
 
 conn_issues : (w : World) (n k : ℕ) (traffic : lines.Traffic) → Each (World.conn_line w n k traffic).issues
-conn_issues w n k lines.GoesUp = goes_up w k (get w.conns k)
-conn_issues w n k lines.ComesDown = comes_down w n k (get w.conns k)
+conn_issues w n k lines.Up = server_receives w k (get w.conns k)
+conn_issues w n k lines.Down = peer_receives w n k (get w.conns k)
 conn_issues w n k lines.Gone = tt
 conn_issues w n k (lines.Raw text) = tt
 
@@ -179,9 +179,9 @@ server_issues w (lines.Limit updates sessions) = tt
 server_issues w lines.ShowServer = tt
 server_issues w lines.BriefServer = tt
 
-drain_step : (w : World) (n : ℕ) (up down : Option ℕ) → Each (World.or_quiet w (World.drain_step w n up down)).issues
-drain_step w n (Some k) down = goes_up w k (get w.conns k)
-drain_step w n None (Some k) = comes_down w n k (get w.conns k)
+drain_step : (w : World) (n : ℕ) (inbound outbound : Option ℕ) → Each (World.or_quiet w (World.drain_step w n inbound outbound)).issues
+drain_step w n (Some k) outbound = server_receives w k (get w.conns k)
+drain_step w n None (Some k) = peer_receives w n k (get w.conns k)
 drain_step w n None None = tt
 
 drains : (n m : ℕ) (w : World) → Each (World.drain w n m).issues
@@ -189,7 +189,7 @@ unfolding World.drain
 drains n zero w = tt
 drains n (suc m) w =
     let out = World.drain_once w n in
-    each_append out.issues (World.drain out.world n m).issues (drain_step w n (World.least World.has_up (entries w.conns)) (World.least World.has_down (entries w.conns))) (drains n m out.world)
+    each_append out.issues (World.drain out.world n m).issues (drain_step w n (World.least World.has_inbound (entries w.conns)) (World.least World.has_outbound (entries w.conns))) (drains n m out.world)
 
 module _ (keep : KeepsSound) where
   step_issues : (w : World) (n : ℕ) (l : Line) → ((c : ℕ) → IsSound (account w c)) → IsLine l → Each (World.step w n l).issues

@@ -11,11 +11,11 @@ mod Calls
 mod Calm
 mod ClientLines
 mod ClocksKept
-mod Comings
+mod Receiving
 mod Commits
 mod Cuts
 mod Dials
-mod Downs
+mod Outbounds
 mod EditMakes
 mod Edits
 mod EmptyPresence
@@ -58,7 +58,7 @@ mod Resumes
 mod Reversals
 mod Reversed
 mod RunSteps
-mod Seats
+mod Slots
 mod Sends
 mod Sent
 mod Served
@@ -68,7 +68,7 @@ mod Settled
 mod Single
 mod SoundAccounts
 mod SoundCalls
-mod SoundComes
+mod SoundReceives
 mod SoundLines
 mod SoundMaps
 mod SoundSends

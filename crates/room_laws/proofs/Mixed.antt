@@ -8,7 +8,7 @@ use Rattle.room_msg.specs.declared.messages.ClientMsg.TheVariants as client
 use Rattle.room_msg.specs.declared.messages.ServerMsg.TheVariants as server
 use Rattle.room_log.specs.Log.{State, Session, Entry, Updated, Update, session_of, updated, ops_of}
 use Rattle.room_model.specs.Server
-use Rattle.room_model.specs.Server.{Down, Message, Link, Served, to_each, has_fetched}
+use Rattle.room_model.specs.Server.{Outbound, Message, Link, Served, to_each, has_fetched}
 use Rattle.room_model.specs.World
 use Rattle.room_model.specs.World.{Conn, Fuse, deliver}
 use Rattle.room_model.specs.Run.{Run, IsUndisturbed}
@@ -36,9 +36,9 @@ entry_stays k a [] sv = refl
 entry_stays k a (m ∷ ms) sv = subst (λ (x : Option Update). (act_from (Server.then_served sv (Server.acts sv.server k a None m)) k a x ms).entry ≡ sv.entry) (sym (waits_none m))
     (entry_stays k a ms (Server.then_served sv (Server.acts sv.server k a None m)) ∙ ap (Server.or_entry sv.entry) (act_entry sv.server k a m) ∙ or_none sv.entry)
 
-owner_stays : (q : Conn) (ms : List Down) → (given_all q ms).owner ≡ q.owner
+owner_stays : (q : Conn) (ms : List Outbound) → (given_all q ms).owner ≡ q.owner
 owner_stays q [] = refl
-owner_stays q (m ∷ ms) = owner_stays (World.with_down q m) ms
+owner_stays q (m ∷ ms) = owner_stays (World.with_outbound q m) ms
 
 -- w: the world without the frame; the update n is taken of the state `now`
 module _ (s : State) (r : Run) (w : World.World) (k a : ℕ) (now : State) (n : Update) (x : Session)
@@ -80,11 +80,11 @@ module _ (s : State) (r : Run) (w : World.World) (k a : ℕ) (now : State) (n : 
           };
           log = z ++ Updated n ∷ [];
         })) (ap (λ e. r.log ++ World.entries_in e) h.none ∙ append-nil r.log)
-        (keeps_commit s (run_of s r w k a sv f) sv.server k h.reached.link n x (deliver w.conns sv.outs) (λ j. (Invariant.conn (run_of s r w k a sv f).world j).up) f (h.reached.stands f)
+        (keeps_commit s (run_of s r w k a sv f) sv.server k h.reached.link n x (deliver w.conns sv.outs) (λ j. (Invariant.conn (run_of s r w k a sv f).world j).inbound) f (h.reached.stands f)
         refl h.reached.attached (h.reached.named ∙ ap Some (sym actor))
         (ap (λ (z : State). session_of z.sessions n.actor) h.state ∙ known) first some
         (subst (λ (z : State). tree_in (items_of (updated z n).tree) ≡ Some (updated z n).tree) (sym h.state) spelled)
-        (λ j. refl) (λ j e. e) (λ j e. refl) (λ j e. ap (λ (q : Conn). q.up) ((h.reached.stands f).shape.unopened j e))
+        (λ j. refl) (λ j e. e) (λ j e. refl) (λ j e. ap (λ (q : Conn). q.inbound) ((h.reached.stands f).shape.unopened j e))
         (λ d o i. absurd (nobody sv d o i)) (λ d o i. absurd (nobody sv d o i))));
   }
 

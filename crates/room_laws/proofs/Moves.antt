@@ -24,23 +24,23 @@ still w number zero e = refl
 still w number (suc n) e = ap (λ o. World.then_stepped (World.or_quiet w o) (World.drain (World.or_quiet w o).world number n)) e ∙ still w number n e
 
 module _ (r : Run) (number n : ℕ) (rest : (z : Run) → run z (move_lines number (moves n z.world number)) ≡ with_step z (World.drain z.world number n)) where
-  next_is : (up down : Option ℕ) → World.least World.has_up (entries r.world.conns) ≡ up → World.least World.has_down (entries r.world.conns) ≡ down →
-      run r (move_lines number (where_some (move up down) (λ m. m ∷ moves n (World.conn_line r.world number m.0 m.1).world number)))
-      ≡ with_step r (World.then_stepped (World.or_quiet r.world (World.drain_step r.world number up down)) (World.drain (World.or_quiet r.world (World.drain_step r.world number up down)).world number n))
-  next_is (Some k) down e f =
-      let out = World.goes_up r.world k in
+  next_is : (inbound outbound : Option ℕ) → World.least World.has_inbound (entries r.world.conns) ≡ inbound → World.least World.has_outbound (entries r.world.conns) ≡ outbound →
+      run r (move_lines number (where_some (move inbound outbound) (λ m. m ∷ moves n (World.conn_line r.world number m.0 m.1).world number)))
+      ≡ with_step r (World.then_stepped (World.or_quiet r.world (World.drain_step r.world number inbound outbound)) (World.drain (World.or_quiet r.world (World.drain_step r.world number inbound outbound)).world number n))
+  next_is (Some k) outbound e f =
+      let out = World.server_receives r.world k in
       rest (with_step r out) ∙ step_after r out (World.drain out.world number n)
   next_is None (Some k) e f =
-      let out = World.comes_down r.world number k in
+      let out = World.peer_receives r.world number k in
       rest (with_step r out) ∙ step_after r out (World.drain out.world number n)
   next_is None None e f =
-      let none : World.drain_next r.world number ≡ None = ap (λ o. World.drain_step r.world number o (World.least World.has_down (entries r.world.conns))) e ∙ ap (World.drain_step r.world number None) f in
+      let none : World.drain_next r.world number ≡ None = ap (λ o. World.drain_step r.world number o (World.least World.has_outbound (entries r.world.conns))) e ∙ ap (World.drain_step r.world number None) f in
       sym (nothing_first r) ∙ ap (with_step r) (sym (still r.world number n none))
 
 drained : (number n : ℕ) (r : Run) → run r (move_lines number (moves n r.world number)) ≡ line r number (lines.Drain n)
 unfolding World.drain
 drained number zero r = sym (nothing_first r)
-drained number (suc n) r = next_is r number n (drained number n) (World.least World.has_up (entries r.world.conns)) (World.least World.has_down (entries r.world.conns)) refl refl
+drained number (suc n) r = next_is r number n (drained number n) (World.least World.has_inbound (entries r.world.conns)) (World.least World.has_outbound (entries r.world.conns)) refl refl
 
 single_is : (r : Run) (number : ℕ) (l : Line) → run r (single r.world number l) ≡ line r number l
 single_is r number (lines.OfClient c call) = refl

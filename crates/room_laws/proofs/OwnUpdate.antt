@@ -11,7 +11,7 @@ use Rattle.room_nodes.specs.Steps.{fold}
 use Rattle.room_log.specs.Log.{actor_of, clock_of, bodies_of, ops_from}
 use Rattle.room_log.proofs.Same.{first_same}
 use Rattle.room_model.specs.Account.{Account, Batch, actor, all_bodies, all_ops, batch_ops, beyond, bodies_in, issued, last_clock, last_issued, open_ops, pending, pending_bodies, rest_of, shown, shown_over}
-use Rattle.room_model.specs.Comes.{told_by, updated_account}
+use Rattle.room_model.specs.Receive.{told_by, updated_account}
 use Rattle.room_model.specs.Sound.{ClocksRunOn, RunsOn}
 use Rattle.room_laws.specs.Ledger.{upto}
 use Rattle.room_laws.proofs.Batches.{beyond-append, beyond_none, beyond_one, ends_upto}

@@ -14,20 +14,20 @@ use Rattle.room_model.specs.History.{History}
 use Rattle.room_model.specs.Lines as lines
 use Rattle.room_model.specs.Lines.{Line}
 use Rattle.room_model.specs.World
-use Rattle.room_model.specs.World.{World, Seat, seat, account}
+use Rattle.room_model.specs.World.{World, Slot, slot, account}
 use Rattle.room_model.specs.Run.{Run, run}
 use Rattle.room_laws.specs.Back.{in_bag}
-use Rattle.room_laws.specs.Events.{Event, Called, Came, Ended, happened, happen, events}
+use Rattle.room_laws.specs.Events.{Event, Called, Arrived, Ended, happened, happen, events}
 use Rattle.room_laws.specs.Open.{IsOpenOn, GoesBack, Notes, brings_none}
 use Rattle.room_laws.specs.Undo as undo
-use Rattle.room_laws.specs.Undo.{Maker, Ends, Edits, Turns, Course, AreQuiet, IsQuiet, Begins, EachReversed, EndsNone, call_of, call_of_way, way_back}
+use Rattle.room_laws.specs.Undo.{Maker, Ends, Edits, Turns, Course, AreQuiet, IsQuiet, Begins, EachReversed, EndsNone, call_of, call_of_direction, taking_back}
 use Rattle.room_laws.proofs.Alone.{back_as, reversal_is}
 use Rattle.room_laws.proofs.Bare.{Bare, always_bare}
-use Rattle.room_laws.proofs.Calls.{seat_same}
+use Rattle.room_laws.proofs.Calls.{slot_same}
 use Rattle.room_laws.proofs.Facts.{some_is}
 use Rattle.room_laws.proofs.Happens.{Keeps, keeps_event}
 use Rattle.room_laws.proofs.Open.{base_at, edit_as, keeps_open}
-use Rattle.room_laws.proofs.Seats.{follows_events}
+use Rattle.room_laws.proofs.Slots.{follows_events}
 
 -- an open batch stays on its tree
 
@@ -35,9 +35,9 @@ begins_none : (t : Nodes) (x y : Account) (o : Option OpenBatch) → GoesBack t 
 begins_none t x y None g p = absurd g
 begins_none t x y (Some o) g p = cc
 
-backs_none : (t : Nodes) (way : calls.Way) (x : Account) (out : calls.Done) (o : Option OpenBatch) → GoesBack t o → calls.back_at way x o ≡ Ok (Some out) → IsOpenOn t out.account
-backs_none t way x out None g p = absurd g
-backs_none t way x out (Some o) g p = cc
+backs_none : (t : Nodes) (direction : calls.Direction) (x : Account) (out : calls.Done) (o : Option OpenBatch) → GoesBack t o → calls.back_at direction x o ≡ Ok (Some out) → IsOpenOn t out.account
+backs_none t direction x out None g p = absurd g
+backs_none t direction x out (Some o) g p = cc
 
 open_keeps : (t : Nodes) → Keeps (IsOpenOn t) EndsNone (λ m. brings_none m ≡ true)
 open_keeps t = record {
@@ -55,12 +55,12 @@ open_keeps t = record {
   resent = keeps_open.resent t;
   lost = keeps_open.lost t;
   dialled = keeps_open.dialled t;
-  comes = λ x m out a h p. keeps_open.comes t x m out a h p;
+  receive = λ x m out a h p. keeps_open.receive t x m out a h p;
 }
 
 open_event : (t : Nodes) (x : Account) (e : Event) → IsQuiet e → IsOpenOn t x → IsOpenOn t (happened x e)
 open_event t x (Called call) q h = keeps_event (IsOpenOn t) EndsNone (λ m. brings_none m ≡ true) (open_keeps t) x (Called call) q h
-open_event t x (Came m) q h = keeps_event (IsOpenOn t) EndsNone (λ m. brings_none m ≡ true) (open_keeps t) x (Came m) q h
+open_event t x (Arrived m) q h = keeps_event (IsOpenOn t) EndsNone (λ m. brings_none m ≡ true) (open_keeps t) x (Arrived m) q h
 open_event t x Ended q h = keeps_open.lost t x h
 
 open_after : (t : Nodes) (x : Account) (es : List Event) → AreQuiet es → IsOpenOn t x → IsOpenOn t (happen x es)
@@ -104,28 +104,28 @@ record Gave (b : Batch) (y : Account) (out : calls.Done) : Type 0 where
   issues : out.issues ≡ b ∷ []
   after : y ≡ out.account
 
-gave : (w : World) (c : ℕ) (ns : List _) (b : Batch) (out : calls.Done) → World.issued_by c out.issues ≡ (c, b) ∷ [] → Gave b (account (World.with_seat w c (record { account = out.account; present = (seat w c).present; noticed = ns })) c) out
-gave w c ns b out i = record { issues = one_issued c out.issues b i; after = ap (λ (z : Seat). z.account) (seat_same w c (record { account = out.account; present = (seat w c).present; noticed = ns })) }
+gave : (w : World) (c : ℕ) (ns : List _) (b : Batch) (out : calls.Done) → World.issued_by c out.issues ≡ (c, b) ∷ [] → Gave b (account (World.with_slot w c (record { account = out.account; present = (slot w c).present; noticed = ns })) c) out
+gave w c ns b out i = record { issues = one_issued c out.issues b i; after = ap (λ (z : Slot). z.account) (slot_same w c (record { account = out.account; present = (slot w c).present; noticed = ns })) }
 
-ends_gave : (w : World) (n c : ℕ) (b : Batch) (r : Result calls.Done calls.BatchFault) → (World.end_out w n c (seat w c) r).issues ≡ (c, b) ∷ []
-    → (out : calls.Done) × (r ≡ Ok out) × Gave b (account (World.end_out w n c (seat w c) r).world c) out
+ends_gave : (w : World) (n c : ℕ) (b : Batch) (r : Result calls.Done calls.BatchFault) → (World.end_out w n c (slot w c) r).issues ≡ (c, b) ∷ []
+    → (out : calls.Done) × (r ≡ Ok out) × Gave b (account (World.end_out w n c (slot w c) r).world c) out
 ends_gave w n c b (Err fault) i = cc
-ends_gave w n c b (Ok out) i = (out, refl, gave w c (seat w c).noticed b out i)
+ends_gave w n c b (Ok out) i = (out, refl, gave w c (slot w c).noticed b out i)
 
-edits_gave : (w : World) (n c : ℕ) (b : Batch) (r : Result calls.Done EditFault) → (World.edit_out w n c (seat w c) r).issues ≡ (c, b) ∷ []
-    → (out : calls.Done) × (r ≡ Ok out) × Gave b (account (World.edit_out w n c (seat w c) r).world c) out
+edits_gave : (w : World) (n c : ℕ) (b : Batch) (r : Result calls.Done EditFault) → (World.edit_out w n c (slot w c) r).issues ≡ (c, b) ∷ []
+    → (out : calls.Done) × (r ≡ Ok out) × Gave b (account (World.edit_out w n c (slot w c) r).world c) out
 edits_gave w n c b (Err fault) i = cc
 edits_gave w n c b (Ok out) i = (out, refl, gave w c out.notices b out i)
 
-backs_gave : (w : World) (n c : ℕ) (b : Batch) (r : Result (Option calls.Done) calls.UndoFault) → (World.back_out w n c (seat w c) r).issues ≡ (c, b) ∷ []
-    → (out : calls.Done) × (r ≡ Ok (Some out)) × Gave b (account (World.back_out w n c (seat w c) r).world c) out
+backs_gave : (w : World) (n c : ℕ) (b : Batch) (r : Result (Option calls.Done) calls.UndoFault) → (World.back_out w n c (slot w c) r).issues ≡ (c, b) ∷ []
+    → (out : calls.Done) × (r ≡ Ok (Some out)) × Gave b (account (World.back_out w n c (slot w c) r).world c) out
 backs_gave w n c b (Err fault) i = cc
 backs_gave w n c b (Ok None) i = cc
 backs_gave w n c b (Ok (Some out)) i = (out, refl, gave w c out.notices b out i)
 
 -- an entry that is taken back
 
-undoes_at : (w : World) (n c : ℕ) (b : Batch) (way : calls.Way) (entry : List Change) → calls.entry_of way (account w c).history ≡ Some entry → (World.step w n (lines.OfClient c (call_of_way way))).issues ≡ (c, b) ∷ []
+undoes_at : (w : World) (n c : ℕ) (b : Batch) (direction : calls.Direction) (entry : List Change) → calls.entry_of direction (account w c).history ≡ Some entry → (World.step w n (lines.OfClient c (call_of_direction direction))).issues ≡ (c, b) ∷ []
     → b.bodies ≡ calls.entry_bodies entry
 undoes_at w n c b calls.Undo entry f i = let g = backs_gave w n c b (calls.go_back calls.Undo (account w c)) i in keeps_open.go_back calls.Undo (account w c) entry b g.0 f g.1 g.2.issues
 undoes_at w n c b calls.Redo entry f i = let g = backs_gave w n c b (calls.go_back calls.Redo (account w c)) i in keeps_open.go_back calls.Redo (account w c) entry b g.0 f g.1 g.2.issues
@@ -169,7 +169,7 @@ module _ (c n : ℕ) (t : Nodes) (b : Batch) (entry : List Change) (r : Run) (ba
   Entry m within =
       let w = (run r within).world in
       let out = World.step w n (lines.OfClient c (call_of m)) in
-      out.issues ≡ (c, b) ∷ [] → undo.IsOfOne m (account w c).history (account out.world c).history → calls.entry_of (way_back m) (account out.world c).history ≡ Some entry → IsBack t b entry
+      out.issues ≡ (c, b) ∷ [] → undo.IsOfOne m (account w c).history (account out.world c).history → calls.entry_of (taking_back m) (account out.world c).history ≡ Some entry → IsBack t b entry
 
   at_once : (m : Maker) (within : List (ℕ × Line)) → within ≡ [] → Entry m [] → Entry m within
   at_once m within e f = subst (Entry m) (sym e) f
@@ -181,9 +181,9 @@ module _ (c n : ℕ) (t : Nodes) (b : Batch) (entry : List Change) (r : Run) (ba
       let g = edits_gave w n c b (calls.edit x e) i in
       of_notes t x (account (World.step w n (lines.OfClient c (lines.Edits e))).world c) b g.0 entry (keeps_open.alone t x e b g.0 (edit_alone x e b g.0 g.1 g.2.issues) shows g.1 g.2.issues) g.2.after one p
 
-  by_way : (way : calls.Way) → Entry (Turns way) []
-  by_way calls.Undo i one p = let g = backs_gave r.world n c b (calls.go_back calls.Undo (account r.world c)) i in gone_back t (account r.world c) _ b g.0 entry shows g.1 g.2.issues g.2.after p
-  by_way calls.Redo i one p = let g = backs_gave r.world n c b (calls.go_back calls.Redo (account r.world c)) i in gone_forth t (account r.world c) _ b g.0 entry shows g.1 g.2.issues g.2.after p
+  by_direction : (direction : calls.Direction) → Entry (Turns direction) []
+  by_direction calls.Undo i one p = let g = backs_gave r.world n c b (calls.go_back calls.Undo (account r.world c)) i in gone_back t (account r.world c) _ b g.0 entry shows g.1 g.2.issues g.2.after p
+  by_direction calls.Redo i one p = let g = backs_gave r.world n c b (calls.go_back calls.Redo (account r.world c)) i in gone_forth t (account r.world c) _ b g.0 entry shows g.1 g.2.issues g.2.after p
 
   by_end : (within : List (ℕ × Line)) → Begins Ends r c within → Entry Ends within
   by_end within h i one p =
@@ -196,9 +196,9 @@ module _ (c n : ℕ) (t : Nodes) (b : Batch) (entry : List Change) (r : Run) (ba
   by_maker : (m : Maker) (within : List (ℕ × Line)) → Begins m r c within → Entry m within
   by_maker Ends within h = by_end within h
   by_maker (Edits e) within h = at_once (Edits e) within h (by_edit e)
-  by_maker (Turns way) within h = at_once (Turns way) within h (by_way way)
+  by_maker (Turns direction) within h = at_once (Turns direction) within h (by_direction direction)
 
 pub each_reversed : EachReversed
 each_reversed s q c t made back g =
-    undoes_at (undo.until s q c).world q.back c back (way_back q.maker) g.entry g.next g.undoes
+    undoes_at (undo.until s q c).world q.back c back (taking_back q.maker) g.entry g.next g.undoes
     ∙ by_maker c q.last t made g.entry (undo.before s q) (always_bare s q.before c) g.shows q.maker q.within g.begins g.issues g.one g.noted

@@ -34,10 +34,10 @@ use Rattle.room_log.proofs.NextTaken.{taken_follows}
 use Rattle.room_log.proofs.ValidStates.{valid_after}
 use Rattle.room_model.specs.Access.{Decision, barred, refusal_text}
 use Rattle.room_model.specs.Server
-use Rattle.room_model.specs.Server.{Down, Pong, Message, Closed, Up, Link, Served}
+use Rattle.room_model.specs.Server.{Outbound, Pong, Message, Closed, Inbound, Link, Served}
 use Rattle.room_model.specs.Sound.{AreItems}
 use Rattle.room_model.specs.World.{entries_in}
-use Rattle.room_laws.specs.Validity.{AreValidClientMsgs, IsActorOf, IsValidClientMsg, IsSoundDown, IsSoundLink, IsSoundServer, IsSoundUp, ItemsOfValid}
+use Rattle.room_laws.specs.Validity.{AreValidClientMsgs, IsActorOf, IsValidClientMsg, IsSoundOutbound, IsSoundLink, IsSoundServer, IsSoundInbound, ItemsOfValid}
 use Rattle.room_laws.proofs.SoundMaps.{Each, each_put, each_out, each_without}
 use Rattle.room_laws.proofs.SoundSends.{ops_fit}
 use Rattle.room_laws.proofs.Acting.{act_from, taken_from, taken_is}
@@ -92,15 +92,15 @@ length-with ss (suc i) c = length-at ss i c (slice_get ss i)
 
 -- what is sent
 
-abbrev pub AreSoundOuts : List (ℕ × Down) → Type 0
+abbrev pub AreSoundOuts : List (ℕ × Outbound) → Type 0
 AreSoundOuts [] = ⊤
-AreSoundOuts (o ∷ os) = IsSoundDown o.1 × AreSoundOuts os
+AreSoundOuts (o ∷ os) = IsSoundOutbound o.1 × AreSoundOuts os
 
-outs-append : (os ps : List (ℕ × Down)) → AreSoundOuts os → AreSoundOuts ps → AreSoundOuts (os ++ ps)
+outs-append : (os ps : List (ℕ × Outbound)) → AreSoundOuts os → AreSoundOuts ps → AreSoundOuts (os ++ ps)
 outs-append [] ps h k = k
 outs-append (o ∷ os) ps h k = (h.0, outs-append os ps h.1 k)
 
-to_each_sound : (p : Link → Bool) (m : Down) (es : List (ℕ × Link)) → IsSoundDown m → AreSoundOuts (Server.to_each p m es)
+to_each_sound : (p : Link → Bool) (m : Outbound) (es : List (ℕ × Link)) → IsSoundOutbound m → AreSoundOuts (Server.to_each p m es)
 to_each_sound p m [] h = tt
 to_each_sound p m (e ∷ es) h = by_test (p e.1) (to_each_sound p m es h)
   where
@@ -108,7 +108,7 @@ to_each_sound p m (e ∷ es) h = by_test (p e.1) (to_each_sound p m es h)
     by_test true k = (h, k)
     by_test false k = k
 
-to_others_sound : (ls : FinMap nat_cmp Link) (k : ℕ) (m : ServerMsg) → IsSoundDown (Message m) → AreSoundOuts (Server.to_others ls k m)
+to_others_sound : (ls : FinMap nat_cmp Link) (k : ℕ) (m : ServerMsg) → IsSoundOutbound (Message m) → AreSoundOuts (Server.to_others ls k m)
 to_others_sound ls k m h = to_each_sound Server.has_session (Message m) (entries (remove ls k)) h
 
 left_sound : (ls : FinMap nat_cmp Link) (k n : ℕ) (o : Option ℕ) → n ≤ most_actor → IsActorOf n o → AreSoundOuts (Server.left_to ls k o)
@@ -216,7 +216,7 @@ module _ (v : Server.Server) (h : IsSoundServer v) where
   abbrev IsLink : Link → Type 0
   IsLink = IsSoundLink (length v.state.sessions)
 
-  quiet : (outs : List (ℕ × Down)) → AreSoundOuts outs → Calm v (Server.served v outs)
+  quiet : (outs : List (ℕ × Outbound)) → AreSoundOuts outs → Calm v (Server.served v outs)
   quiet outs i = record { server = h; outs = i; none = refl; state = refl }
 
   linked : (ls : FinMap nat_cmp Link) → Each IsLink ls → IsSoundServer (Server.with_links v ls)
@@ -469,17 +469,17 @@ module _ (items : ItemsOfValid) (v : Server.Server) (h : IsSoundServer v) (k : �
   messages_goes l ms None i at sound = hello_goes v h k l i (Server.only_hello ms) (only_sound v h k l i ms sound)
   messages_goes l ms (Some a) i at sound = session_goes l i a at ms sound
 
-  frame_goes : (l : Link) (u : Up) → IsSoundLink (length v.state.sessions) l → IsSoundUp u → Goes v (Server.frame_at v k l u)
+  frame_goes : (l : Link) (u : Inbound) → IsSoundLink (length v.state.sessions) l → IsSoundInbound u → Goes v (Server.frame_at v k l u)
   frame_goes l (Err r) i s = calm_goes v _ (shuts v h k l i 4400 (codes "bad frame " ++ Server.reason_text r))
   frame_goes l (Ok frame.Ping) i s = calm_goes v _ (quiet v h ((k, Pong) ∷ []) (tt, tt))
   frame_goes l (Ok (frame.Msgs ms)) i s = messages_goes l ms l.actor i i.actor s
 
-  serves : (u : Up) (o : Option Link) → get v.links k ≡ o → IsSoundUp u → Goes v (Server.serve_from v k u o)
+  serves : (u : Inbound) (o : Option Link) → get v.links k ≡ o → IsSoundInbound u → Goes v (Server.serve_from v k u o)
   serves u None e s = calm_goes v _ (quiet v h [] tt)
   serves u (Some l) e s = frame_goes l u (h.links k l e) s
 
   -- what it does with a frame, and once a connection is gone
-  pub serve_goes : (u : Up) → IsSoundUp u → Goes v (Server.serve v k u)
+  pub serve_goes : (u : Inbound) → IsSoundInbound u → Goes v (Server.serve v k u)
   serve_goes u s = serves u (get v.links k) refl s
 
   pub gone_is : Calm v (Server.gone v k)

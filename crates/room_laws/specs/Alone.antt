@@ -14,7 +14,7 @@ use Rattle.room_model.specs.Sound.{changes_in}
 use Rattle.room_model.specs.World.{account}
 use Rattle.room_model.specs.Run.{run, opened}
 use Rattle.room_laws.specs.Back.{Undoes, edit_count, end_count, in_bag, presence_count}
-use Rattle.room_laws.specs.Events.{Event, Called, Came, Ended, events, happened}
+use Rattle.room_laws.specs.Events.{Event, Called, Arrived, Ended, events, happened}
 use Rattle.room_laws.specs.Validity.{AreLines}
 
 -- The moment: t is shown, no open batch holds anything that goes back, and nothing is gathered in a pause. So what is
@@ -50,7 +50,8 @@ call_count x lines.Redo k = if_back (go_back Redo x) (suc k) k
 call_count x lines.Pause k = k
 call_count x lines.Resume k = k
 call_count x lines.Clear k = k
-call_count x (lines.Presence patch in_history) k = if_given (presence x patch in_history) (presence_count x k patch in_history) k
+call_count x (lines.Presence patch in_history) k =
+    if_given (presence x patch in_history) (presence_count x k patch in_history) k
 call_count x (lines.Event e) k = k
 call_count x lines.Flush k = k
 call_count x lines.Resend k = k
@@ -58,7 +59,7 @@ call_count x lines.Cut k = k
 
 abbrev pub event_count : Account → Event → ℕ → ℕ
 event_count x (Called call) k = call_count x call k
-event_count x (Came m) k = k
+event_count x (Arrived m) k = k
 event_count x Ended k = k
 
 -- undoing takes one of these, and the history isn't cleared
@@ -96,7 +97,7 @@ IsOwnMessage x (server.Update seq os) = are_first os (pending x) ≡ true
 
 abbrev pub IsAlone : Account → ℕ → Event → Type 0
 IsAlone x k (Called call) = IsCallAlone x k call
-IsAlone x k (Came m) = IsOwnMessage x m
+IsAlone x k (Arrived m) = IsOwnMessage x m
 IsAlone x k Ended = Unit {0}
 
 -- event by event, with the history's 50 entries at most begun since; and how many are there in the end
@@ -109,8 +110,8 @@ abbrev pub counted : Account → ℕ → List Event → ℕ
 counted x k [] = k
 counted x k (e ∷ es) = counted (happened x e) (event_count x e k) es
 
--- The entries that were begun since the moment, undone in a row, restore what was shown then: those of edits, of batches,
--- of pauses and of redos alike.
+-- The entries that were begun since the moment, undone in a row, restore what was shown then: those of edits, of
+-- batches, of pauses and of redos alike.
 abbrev pub AlwaysAlone : Type 0
 AlwaysAlone = (s : State) (ls ms : List (ℕ × Line)) (c k : ℕ) (t : Nodes) (y : Account) →
     IsValidState s → AreLines (ls ++ ms) → BeginsAlone t (account (run (opened s) ls).world c) →

@@ -7,39 +7,49 @@ use Rattle.room_log.specs.Follows.{IsValidState}
 use Rattle.room_msg.specs.declared.messages.ServerMsg.{ServerMsg}
 use Rattle.room_msg.specs.declared.messages.ServerFrame.TheVariants.{Msgs}
 use Rattle.room_model.specs.Account.{Batch, shown}
-use Rattle.room_model.specs.Comes.{frame_comes}
+use Rattle.room_model.specs.Receive.{receive_frame}
 use Rattle.room_model.specs.Lines as lines
 use Rattle.room_model.specs.Lines.{Line}
-use Rattle.room_model.specs.Server.{Server, Down, Message, Up, serve}
-use Rattle.room_model.specs.World.{Running, seat, account}
+use Rattle.room_model.specs.Server.{Server, Outbound, Message, Inbound, serve}
+use Rattle.room_model.specs.World.{Running, slot, account}
 use Rattle.room_model.specs.Run.{run, opened, IsUndisturbed}
 use Rattle.room_laws.specs.Invariant.{conn}
 use Rattle.room_laws.specs.Laws.{ShowsLog, Kept, spares_all}
-use Rattle.room_laws.specs.Undo.{Course, Goes, Lies, call_of, call_of_way, way_back, whole}
+use Rattle.room_laws.specs.Undo.{Course, Goes, Lies, call_of, call_of_direction, taking_back, whole}
 use Rattle.room_laws.specs.Undoing.{TakesBack, bodies_after}
 use Rattle.room_laws.specs.Validity.{AreLines}
 
 abbrev pub AlwaysShows : Type 0
-AlwaysShows = (s : State) (ls : List (ℕ × Line)) (c : ℕ) (t : Nodes) → IsValidState s → AreLines ls → IsUndisturbed (run (opened s) ls) c
+AlwaysShows =
+    (s : State) (ls : List (ℕ × Line)) (c : ℕ) (t : Nodes) → IsValidState s → AreLines ls
+    → IsUndisturbed (run (opened s) ls) c
     → (account (run (opened s) ls).world c).confirmed ≡ Some t → ShowsLog s (run (opened s) ls) c t
 
 abbrev pub AlwaysOnce : Type 0
-AlwaysOnce = (s : State) (ls : List (ℕ × Line)) (c : ℕ) → IsValidState s → AreLines ls → IsUndisturbed (run (opened s) ls) c → Kept s (run (opened s) ls) c
+AlwaysOnce =
+    (s : State) (ls : List (ℕ × Line)) (c : ℕ) → IsValidState s → AreLines ls → IsUndisturbed (run (opened s) ls) c
+    → Kept s (run (opened s) ls) c
 
 abbrev pub AlwaysTaken : Type 0
-AlwaysTaken = (s : State) (ls : List (ℕ × Line)) (c k : ℕ) (m : ServerMsg) (ms : List Down) → IsValidState s → AreLines ls → IsUndisturbed (run (opened s) ls) c
-    → (seat (run (opened s) ls).world c).present ≡ Some k → (conn (run (opened s) ls).world k).down ≡ Message m ∷ ms
-    → IsOk (frame_comes (account (run (opened s) ls).world c) (Msgs (m ∷ [])))
+AlwaysTaken =
+    (s : State) (ls : List (ℕ × Line)) (c k : ℕ) (m : ServerMsg) (ms : List Outbound) → IsValidState s → AreLines ls
+    → IsUndisturbed (run (opened s) ls) c
+    → (slot (run (opened s) ls).world c).present ≡ Some k → (conn (run (opened s) ls).world k).outbound ≡ Message m ∷ ms
+    → IsOk (receive_frame (account (run (opened s) ls).world c) (Msgs (m ∷ [])))
 
 abbrev pub AlwaysServed : Type 0
-AlwaysServed = (s : State) (ls : List (ℕ × Line)) (c k : ℕ) (v : Server) (u : Up) (us : List Up) → IsValidState s → AreLines ls → IsUndisturbed (run (opened s) ls) c
-    → (run (opened s) ls).world.host ≡ Running v → (conn (run (opened s) ls).world k).owner ≡ Some c → (conn (run (opened s) ls).world k).up ≡ u ∷ us
+AlwaysServed =
+    (s : State) (ls : List (ℕ × Line)) (c k : ℕ) (v : Server) (u : Inbound) (us : List Inbound) → IsValidState s
+    → AreLines ls → IsUndisturbed (run (opened s) ls) c
+    → (run (opened s) ls).world.host ≡ Running v → (conn (run (opened s) ls).world k).owner ≡ Some c
+    → (conn (run (opened s) ls).world k).inbound ≡ u ∷ us
     → spares_all (serve v k u).outs ≡ true
 
 -- a batch and what takes it back, made where the client showed the tree t between two lines of the run
 abbrev pub AlwaysUndone : Type 0
-AlwaysUndone = (s : State) (ls ms : List (ℕ × Line)) (c : ℕ) (t : Nodes) (made back : Batch) (us vs ws : List Update) (b u : Update) →
-    IsValidState s → AreLines (ls ++ ms) → shown (account (run (opened s) ls).world c) ≡ Some t →
+AlwaysUndone =
+    (s : State) (ls ms : List (ℕ × Line)) (c : ℕ) (t : Nodes) (made back : Batch) (us vs ws : List Update)
+    (b u : Update) → IsValidState s → AreLines (ls ++ ms) → shown (account (run (opened s) ls).world c) ≡ Some t →
     IsUndisturbed (run (opened s) (ls ++ ms)) c → TakesBack s (run (opened s) (ls ++ ms)) c t made back us vs ws b u →
     tree_after s.tree (us ++ b ∷ (vs ++ u ∷ [])) ≡ fold (tree_after s.tree us) (bodies_after vs)
 
@@ -47,13 +57,14 @@ AlwaysUndone = (s : State) (ls ms : List (ℕ × Line)) (c : ℕ) (t : Nodes) (m
 
 abbrev pub lines_behind : Course → ℕ → List (ℕ × Line)
 lines_behind q c = q.within ++ (q.last, lines.OfClient c (call_of q.maker)) ∷
-    (q.until ++ (q.back, lines.OfClient c (call_of_way (way_back q.maker))) ∷ q.rest)
+    (q.until ++ (q.back, lines.OfClient c (call_of_direction (taking_back q.maker))) ∷ q.rest)
 
 abbrev pub lines_of : Course → ℕ → List (ℕ × Line)
 lines_of q c = q.before ++ lines_behind q c
 
 abbrev pub AlwaysUndo : Type 0
-AlwaysUndo = (s : State) (q : Course) (c : ℕ) (t : Nodes) (made back : Batch) (us vs ws : List Update) (b u : Update) →
+AlwaysUndo =
+    (s : State) (q : Course) (c : ℕ) (t : Nodes) (made back : Batch) (us vs ws : List Update) (b u : Update) →
     IsValidState s → AreLines (lines_of q c) → IsUndisturbed (whole s q c) c → Goes s q c t made back →
     Lies s (whole s q c) c t made back us vs ws b u →
     tree_after s.tree (us ++ b ∷ (vs ++ u ∷ [])) ≡ fold (tree_after s.tree us) (bodies_after vs)

@@ -41,7 +41,8 @@ pub record LeadsBack (s : Nodes) (k : ℕ) (x : Account) : Type 0 where
   pub few : k ≤ 50
   pub begun : k ≡ 0 → in_bag x.history.bag ≡ []
 
--- How many entries were begun since some moment, if k were before. Noting puts one, or adds to what is gathered in a pause.
+-- How many entries were begun since some moment, if k were before. Noting puts one, or adds to what is gathered in a
+-- pause.
 
 abbrev pub gathered_count : Option (List Change) → ℕ → ℕ
 gathered_count None k = suc k
@@ -77,13 +78,18 @@ Reverses t bs = fold (fold t bs) (reverse_all t bs) ≡ t
 -- k undos in a row, each of an entry
 abbrev pub Undoes : ℕ → Account → Account → Type 0
 Undoes zero x y = x ≡ y
-Undoes (suc k) x y = record { out : calls.Done; undoes : calls.go_back calls.Undo x ≡ Ok (Some out); more : Undoes k out.account y }
+Undoes (suc k) x y = record {
+  out : calls.Done;
+  undoes : calls.go_back calls.Undo x ≡ Ok (Some out);
+  more : Undoes k out.account y;
+}
 
 -- the list keeps 50 entries, so that many can lead back
 pub record UndoesAlone : Type 0 where
-  pub begins : (s : Nodes) (x : Account) → shown x ≡ Some s → bodies_in x.batch ≡ [] → calls.entry_bodies (changes_in x.batch) ≡ [] →
-      in_bag x.history.bag ≡ [] → LeadsBack s 0 x
-  pub edit : (s : Nodes) (k : ℕ) (x : Account) (e : Edit) (out : calls.Done) → LeadsBack s k x → edit_count x k out ≤ 50 →
+  pub begins : (s : Nodes) (x : Account) → shown x ≡ Some s → bodies_in x.batch ≡ [] →
+      calls.entry_bodies (changes_in x.batch) ≡ [] → in_bag x.history.bag ≡ [] → LeadsBack s 0 x
+  pub edit : (s : Nodes) (k : ℕ) (x : Account) (e : Edit) (out : calls.Done) → LeadsBack s k x →
+      edit_count x k out ≤ 50 →
       ((t : Nodes) (m : Made) → shown x ≡ Some t → make t (clocks x) e ≡ Ok m → Reverses t (bodies_of m.ops)) →
       calls.edit x e ≡ Ok out → LeadsBack s (edit_count x k out) out.account
   pub batch_begin : (s : Nodes) (k : ℕ) (x y : Account) → LeadsBack s k x → calls.batch_begin x ≡ Ok y → LeadsBack s k y
@@ -94,12 +100,14 @@ pub record UndoesAlone : Type 0 where
   pub undo : (s : Nodes) (k : ℕ) (x : Account) (out : calls.Done) → LeadsBack s (suc k) x →
       calls.go_back calls.Undo x ≡ Ok (Some out) → LeadsBack s k out.account
   pub redo : (s : Nodes) (k : ℕ) (x : Account) (out : calls.Done) → LeadsBack s k x → suc k ≤ 50 →
-      ((t : Nodes) (e : List Change) → shown x ≡ Some t → redo_entry x.history ≡ Some e → Reverses t (calls.entry_bodies e)) →
+      ((t : Nodes) (e : List Change) → shown x ≡ Some t → redo_entry x.history ≡ Some e →
+      Reverses t (calls.entry_bodies e)) →
       calls.go_back calls.Redo x ≡ Ok (Some out) → LeadsBack s (suc k) out.account
-  pub presence : (s : Nodes) (k : ℕ) (x y : Account) (patch : List (List ℕ × Value)) (in_history : Bool) → LeadsBack s k x →
-      presence_count x k patch in_history ≤ 50 → calls.presence x patch in_history ≡ Ok y →
+  pub presence : (s : Nodes) (k : ℕ) (x y : Account) (patch : List (List ℕ × Value)) (in_history : Bool) →
+      LeadsBack s k x → presence_count x k patch in_history ≤ 50 → calls.presence x patch in_history ≡ Ok y →
       LeadsBack s (presence_count x k patch in_history) y
   -- what it takes, and all else that leaves what is shown, the batch and the history
   pub same : (s : Nodes) (k : ℕ) (x y : Account) → shown y ≡ shown x → y.batch ≡ x.batch → y.history ≡ x.history →
       LeadsBack s k x → LeadsBack s k y
-  pub restores : (s : Nodes) (k : ℕ) (x y : Account) → LeadsBack s k x → x.batch ≡ None → Undoes k x y → shown y ≡ Some s
+  pub restores : (s : Nodes) (k : ℕ) (x y : Account) → LeadsBack s k x → x.batch ≡ None → Undoes k x y →
+      shown y ≡ Some s

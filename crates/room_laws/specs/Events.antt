@@ -4,8 +4,8 @@ use Rattle.std.specs.FinMap.{get}
 use Rattle.room_msg.specs.declared.messages.ServerMsg.{ServerMsg}
 use Rattle.room_model.specs.Account.{Account}
 use Rattle.room_model.specs.Calls.{Done, Undo, Redo, UndoFault, lost, dialled, edit, batch_begin, batch_end, go_back, pause, resume, clear, presence, event, flushed, resent}
-use Rattle.room_model.specs.Comes.{Took, FrameFault, comes}
-use Rattle.room_model.specs.Server.{Down, Pong, Message, Closed}
+use Rattle.room_model.specs.Receive.{Received, FrameFault, receive}
+use Rattle.room_model.specs.Server.{Outbound, Pong, Message, Closed}
 use Rattle.room_model.specs.Lines as lines
 use Rattle.room_model.specs.Lines.{Call, Line, Traffic}
 use Rattle.room_model.specs.World.{World, Conn, account, conn_line, step}
@@ -15,7 +15,7 @@ use Rattle.room_laws.specs.Moves.{next_move, where_some}
 -- its user calls, a message comes down, or a close does
 pub data Event : Type 0 where
   Called : Call → Event
-  Came : ServerMsg → Event
+  Arrived : ServerMsg → Event
   Ended : Event
 
 -- the account after it; a refused call changes nothing, and a client that refuses a message is lost
@@ -33,9 +33,9 @@ back_or x (Err fault) = x
 back_or x (Ok None) = x
 back_or x (Ok (Some out)) = out.account
 
-abbrev pub took_or : Account → Result Took FrameFault → Account
-took_or x (Err fault) = lost x
-took_or x (Ok out) = out.account
+abbrev pub received_or : Account → Result Received FrameFault → Account
+received_or x (Err fault) = lost x
+received_or x (Ok out) = out.account
 
 abbrev pub called : Account → Call → Account
 called x lines.Dial = dialled x
@@ -55,7 +55,7 @@ called x lines.Cut = lost x
 
 abbrev pub happened : Account → Event → Account
 happened x (Called call) = called x call
-happened x (Came m) = took_or x (comes x m)
+happened x (Arrived m) = received_or x (receive x m)
 happened x Ended = lost x
 
 abbrev pub happen : Account → List Event → Account
@@ -67,26 +67,26 @@ happen x (e ∷ es) = happen (happened x e) es
 abbrev pub if_own : ℕ → ℕ → List Event → List Event
 if_own c d es = if d == c then es else []
 
-abbrev pub comes_as : Down → List Event
-comes_as Pong = []
-comes_as (Message m) = Came m ∷ []
-comes_as (Closed code text) = Ended ∷ []
+abbrev pub arrives_as : Outbound → List Event
+arrives_as Pong = []
+arrives_as (Message m) = Arrived m ∷ []
+arrives_as (Closed code text) = Ended ∷ []
 
-abbrev pub first_as : List Down → List Event
+abbrev pub first_as : List Outbound → List Event
 first_as [] = []
-first_as (m ∷ ms) = comes_as m
+first_as (m ∷ ms) = arrives_as m
 
-abbrev pub owned_events : ℕ → Option ℕ → List Down → List Event
+abbrev pub owned_events : ℕ → Option ℕ → List Outbound → List Event
 owned_events c None ms = []
 owned_events c (Some d) ms = if_own c d (first_as ms)
 
-abbrev pub down_events : ℕ → Option Conn → List Event
-down_events c None = []
-down_events c (Some q) = owned_events c q.owner q.down
+abbrev pub outbound_events : ℕ → Option Conn → List Event
+outbound_events c None = []
+outbound_events c (Some q) = owned_events c q.owner q.outbound
 
 abbrev pub traffic_events : World → ℕ → ℕ → Traffic → List Event
-traffic_events w c k lines.GoesUp = []
-traffic_events w c k lines.ComesDown = down_events c (get w.conns k)
+traffic_events w c k lines.Up = []
+traffic_events w c k lines.Down = outbound_events c (get w.conns k)
 traffic_events w c k lines.Gone = []
 traffic_events w c k (lines.Raw text) = []
 
@@ -94,7 +94,8 @@ traffic_events w c k (lines.Raw text) = []
 abbrev pub moved_events : ℕ → World → ℕ → ℕ → List Event
 moved_events zero w number c = []
 moved_events (suc n) w number c =
-    where_some (next_move w) (λ m. traffic_events w c m.0 m.1 ++ moved_events n (conn_line w number m.0 m.1).world number c)
+    where_some (next_move w) (λ m.
+    traffic_events w c m.0 m.1 ++ moved_events n (conn_line w number m.0 m.1).world number c)
 
 abbrev pub line_events : World → ℕ → ℕ → Line → List Event
 line_events w c number (lines.OfClient d call) = if_own c d (Called call ∷ [])

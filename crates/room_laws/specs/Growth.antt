@@ -11,8 +11,9 @@ use Rattle.room_laws.specs.Validity.{AreLines}
 abbrev pub state_of : Run → State
 state_of r = state_in r.world.host
 
--- What further lines make of a run: entries are added behind those that were there, and each follows. The server stands,
--- running or stopped, where its log leads; so the tree of a recovery is that of the later log after as many updates.
+-- What further lines make of a run: entries are added behind those that were there, and each follows. The server
+-- stands, running or stopped, where its log leads; so the tree of a recovery is that of the later log after as many
+-- updates.
 pub record GrowsTo (s : State) (r later : Run) : Type 0 where
   pub more : List Entry
   pub log : later.log ≡ r.log ++ more

@@ -5,18 +5,18 @@ use Rattle.std.specs.FinMap.{entries}
 use Rattle.room_log.specs.Log.{State}
 use Rattle.room_model.specs.Lines as lines
 use Rattle.room_model.specs.Lines.{Line, Traffic}
-use Rattle.room_model.specs.World.{World, conn_line, has_up, has_down, least, opening, step}
+use Rattle.room_model.specs.World.{World, conn_line, has_inbound, has_outbound, least, opening, step}
 use Rattle.room_model.specs.Run.{Run, run, opened}
 
 -- what a drain does next: up for the least connection with something up, else down for the least with something down
 
 abbrev pub move : Option ℕ → Option ℕ → Option (ℕ × Traffic)
-move (Some k) down = Some (k, lines.GoesUp)
-move None (Some k) = Some (k, lines.ComesDown)
+move (Some k) outbound = Some (k, lines.Up)
+move None (Some k) = Some (k, lines.Down)
 move None None = None
 
 abbrev pub next_move : World → Option (ℕ × Traffic)
-next_move w = move (least has_up (entries w.conns)) (least has_down (entries w.conns))
+next_move w = move (least has_inbound (entries w.conns)) (least has_outbound (entries w.conns))
 
 abbrev pub where_some : {A B : Type 0} → Option A → (A → List B) → List B
 where_some None f = []

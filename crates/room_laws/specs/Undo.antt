@@ -6,7 +6,7 @@ use Rattle.room_nodes.specs.Reversal.{reverse_all}
 use Rattle.room_nodes.specs.Shape.{Nodes}
 use Rattle.room_log.specs.Log.{State, Update, tree_after, updates_of}
 use Rattle.room_model.specs.Account.{Batch, OpenBatch, actor, shown}
-use Rattle.room_model.specs.Calls.{Way, Undo, Redo, entry_of}
+use Rattle.room_model.specs.Calls.{Direction, Undo, Redo, entry_of}
 use Rattle.room_model.specs.Edits.{Edit}
 use Rattle.room_model.specs.History.{History}
 use Rattle.room_model.specs.Lines as lines
@@ -14,7 +14,7 @@ use Rattle.room_model.specs.Lines.{Call, Line}
 use Rattle.room_model.specs.World.{account, step}
 use Rattle.room_model.specs.Run.{Run, run, line, opened}
 use Rattle.room_laws.specs.Back.{in_bag}
-use Rattle.room_laws.specs.Events.{Event, Called, Came, Ended, events}
+use Rattle.room_laws.specs.Events.{Event, Called, Arrived, Ended, events}
 use Rattle.room_laws.specs.Open.{brings_none}
 use Rattle.room_laws.specs.Undoing.{bodies_after}
 
@@ -22,23 +22,23 @@ use Rattle.room_laws.specs.Undoing.{bodies_after}
 pub data Maker : Type 0 where
   Ends : Maker
   Edits : Edit → Maker
-  Turns : Way → Maker
+  Turns : Direction → Maker
 
 -- undoing is taken back by redoing, and all else by undoing
-abbrev pub way_back : Maker → Way
-way_back Ends = Undo
-way_back (Edits e) = Undo
-way_back (Turns Undo) = Redo
-way_back (Turns Redo) = Undo
+abbrev pub taking_back : Maker → Direction
+taking_back Ends = Undo
+taking_back (Edits e) = Undo
+taking_back (Turns Undo) = Redo
+taking_back (Turns Redo) = Undo
 
-abbrev pub call_of_way : Way → Call
-call_of_way Undo = lines.Undo
-call_of_way Redo = lines.Redo
+abbrev pub call_of_direction : Direction → Call
+call_of_direction Undo = lines.Undo
+call_of_direction Redo = lines.Redo
 
 abbrev pub call_of : Maker → Call
 call_of Ends = lines.End
 call_of (Edits e) = lines.Edits e
-call_of (Turns way) = call_of_way way
+call_of (Turns direction) = call_of_direction direction
 
 -- a call that doesn't end a batch
 abbrev pub EndsNone : Call → Type 0
@@ -60,15 +60,15 @@ EndsNone lines.Cut = Unit {0}
 -- no state and no update comes, and no batch is ended
 abbrev pub IsQuiet : Event → Type 0
 IsQuiet (Called call) = EndsNone call
-IsQuiet (Came m) = brings_none m ≡ true
+IsQuiet (Arrived m) = brings_none m ≡ true
 IsQuiet Ended = Unit {0}
 
 abbrev pub AreQuiet : List Event → Type 0
 AreQuiet [] = Unit {0}
 AreQuiet (e ∷ es) = IsQuiet e × AreQuiet es
 
--- The lines before the batch's first operation, those from there to its end, the line that issues it, the lines until it
--- is taken back, the line that does this, and the rest. What makes a batch at once has no lines within.
+-- The lines before the batch's first operation, those from there to its end, the line that issues it, the lines until
+-- it is taken back, the line that does this, and the rest. What makes a batch at once has no lines within.
 pub record Course : Type 0 where
   pub before : List (ℕ × Line)
   pub within : List (ℕ × Line)
@@ -91,7 +91,7 @@ abbrev pub until : State → Course → ℕ → Run
 until s q c = run (made_in s q c) q.until
 
 abbrev pub taken_back : State → Course → ℕ → Run
-taken_back s q c = line (until s q c) q.back (lines.OfClient c (call_of_way (way_back q.maker)))
+taken_back s q c = line (until s q c) q.back (lines.OfClient c (call_of_direction (taking_back q.maker)))
 
 abbrev pub whole : State → Course → ℕ → Run
 whole s q c = run (taken_back s q c) q.rest
@@ -105,34 +105,36 @@ Begins Ends r c within = record {
   quiet : AreQuiet (events r.world c within);
 }
 Begins (Edits e) r c within = within ≡ []
-Begins (Turns way) r c within = within ≡ []
+Begins (Turns direction) r c within = within ≡ []
 
 -- the entry is of the batch alone: nothing was gathered in a pause before it, and something was noted of it
 abbrev pub IsOfOne : Maker → History → History → Type 0
 IsOfOne Ends before after = (in_bag before.bag ≡ []) × (after ≢ before)
 IsOfOne (Edits e) before after = (in_bag before.bag ≡ []) × (after ≢ before)
-IsOfOne (Turns way) before after = Unit {0}
+IsOfOne (Turns direction) before after = Unit {0}
 
--- the client c issues the batch `made`, whose first operation it makes where it shows the tree t, and takes its entry back
--- as the batch `back`
+-- the client c issues the batch `made`, whose first operation it makes where it shows the tree t, and takes its entry
+-- back as the batch `back`
 pub record Goes (s : State) (q : Course) (c : ℕ) (t : Nodes) (made back : Batch) : Type 0 where
   pub shows : shown (account (before s q).world c) ≡ Some t
   pub begins : Begins q.maker (before s q) c q.within
   pub issues : (step (ready s q).world q.last (lines.OfClient c (call_of q.maker))).issues ≡ (c, made) ∷ []
   pub one : IsOfOne q.maker (account (ready s q).world c).history (account (made_in s q c).world c).history
   pub entry : List Change
-  pub noted : entry_of (way_back q.maker) (account (made_in s q c).world c).history ≡ Some entry
-  pub next : entry_of (way_back q.maker) (account (until s q c).world c).history ≡ Some entry
-  pub undoes : (step (until s q c).world q.back (lines.OfClient c (call_of_way (way_back q.maker)))).issues ≡ (c, back) ∷ []
+  pub noted : entry_of (taking_back q.maker) (account (made_in s q c).world c).history ≡ Some entry
+  pub next : entry_of (taking_back q.maker) (account (until s q c).world c).history ≡ Some entry
+  pub undoes :
+      (step (until s q c).world q.back (lines.OfClient c (call_of_direction (taking_back q.maker)))).issues ≡ (c, back) ∷ []
 
 -- then `back` is the reversal of `made` on t
 abbrev pub EachReversed : Type 0
 EachReversed = (s : State) (q : Course) (c : ℕ) (t : Nodes) (made back : Batch) → Goes s q c t made back →
     back.bodies ≡ reverse_all t made.bodies
 
--- both are in the log, as the updates b and u; the tree before b agrees with t on what `made` touches, and the updates vs
--- between are apart from it
-pub record Lies (s : State) (r : Run) (c : ℕ) (t : Nodes) (made back : Batch) (us vs ws : List Update) (b u : Update) : Type 0 where
+-- both are in the log, as the updates b and u; the tree before b agrees with t on what `made` touches, and the updates
+-- vs between are apart from it
+pub record Lies (s : State) (r : Run) (c : ℕ) (t : Nodes) (made back : Batch) (us vs ws : List Update)
+    (b u : Update) : Type 0 where
   pub log : updates_of r.log ≡ us ++ b ∷ (vs ++ u ∷ ws)
   pub of_back : u.actor ≡ actor (account r.world c)
   pub of_made : b.actor ≡ actor (account r.world c)

@@ -25,7 +25,8 @@ pub record Accepts (r : Run) (c : ℕ) (u : Update) (b : Batch) : Type 0 where
 -- The log's updates: some, then b, which took the batch `made`, then vs, then u, which took `back`, then others. `back`
 -- takes `made` back as it was made on the tree `shown`; that and the tree before b agree on the cells of `made`, and vs
 -- is apart from it.
-pub record TakesBack (s : State) (r : Run) (c : ℕ) (shown : Nodes) (made back : Batch) (us vs ws : List Update) (b u : Update) : Type 0 where
+pub record TakesBack (s : State) (r : Run) (c : ℕ) (shown : Nodes) (made back : Batch) (us vs ws : List Update)
+    (b u : Update) : Type 0 where
   pub log : updates_of r.log ≡ us ++ b ∷ (vs ++ u ∷ ws)
   pub taken : Accepts r c b made
   pub taken_back : Accepts r c u back

@@ -19,8 +19,8 @@ pub fn valid_run()
     ensures { ValidRun }
 {}
 
-/// The log only grows, whatever lines follow, and each entry stays what it was. At every moment the server stands where its
-/// log leads: what a recovery finds is the state after a first part of every later log.
+/// The log only grows, whatever lines follow, and each entry stays what it was. At every moment the server stands where
+/// its log leads: what a recovery finds is the state after a first part of every later log.
 pub fn log_grows()
     ensures { LogGrows }
 {}
@@ -57,32 +57,33 @@ pub fn runs_singly()
     ensures { RunsSingly }
 {}
 
-/// The laws on what a client shows, what the log took of it, what it refuses and how it is answered, at every moment of a
-/// run: between two frames of a drain too.
+/// The laws on what a client shows, what the log took of it, what it refuses and how it is answered, at every moment of
+/// a run: between two frames of a drain too.
 pub fn at_every_moment()
     ensures { AtEveryMoment }
 {}
 
-/// A client's account is what its calls, the messages that come down to it and its losses make of it, whatever happens to
-/// the others.
+/// A client's account is what its calls, the messages that come down to it and its losses make of it, whatever happens
+/// to the others.
 pub fn follows_events()
     ensures { FollowsEvents }
 {}
 
-/// What takes a batch back is its reversal on the tree that the client showed before the batch's first operation: the batch
-/// of an edit, of an undo or a redo, or an open one, if no state and no update comes from its first operation to its end.
+/// What takes a batch back is its reversal on the tree that the client showed before the batch's first operation: the
+/// batch of an edit, of an undo or a redo, or an open one, if no state and no update comes from its first operation to
+/// its end.
 pub fn each_reversed()
     ensures { EachReversed }
 {}
 
-/// A batch whose cells nothing else touched, and what takes it back: the tree after the update that took the latter is as if
-/// neither had been. The batch was made on a tree that the client showed.
+/// A batch whose cells nothing else touched, and what takes it back: the tree after the update that took the latter is
+/// as if neither had been. The batch was made on a tree that the client showed.
 pub fn each_undone()
     ensures { AlwaysUndone }
 {}
 
-/// The same from the lines alone: a client makes a batch and takes its entry back, by an undo or a redo, and both are in the
-/// log.
+/// The same from the lines alone: a client makes a batch and takes its entry back, by an undo or a redo, and both are
+/// in the log.
 pub fn each_undo()
     ensures { AlwaysUndo }
 {}

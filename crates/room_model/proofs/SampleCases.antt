@@ -12,11 +12,11 @@ use Rattle.room_msg.specs.declared.messages.ClientMsg.TheVariants as client
 use Rattle.room_msg.specs.declared.messages.ServerMsg.TheVariants as server
 use Rattle.room_log.specs.Log.{Update as TakenUpdate, ops_of}
 use Rattle.room_model.specs.Server as Server
-use Rattle.room_model.specs.Server.{Down, Closed, Message, Link}
+use Rattle.room_model.specs.Server.{Outbound, Closed, Message, Link}
 use Rattle.room_model.specs.Samples.{Samples, of_session, bare_link, numbered}
 
 -- what is sent as a session goes on, by the connections that there were and those that are left
-abbrev outs_of : Server.Server → List (ℕ × Link) → List (ℕ × Link) → List (ℕ × Down)
+abbrev outs_of : Server.Server → List (ℕ × Link) → List (ℕ × Link) → List (ℕ × Outbound)
 outs_of v was left =
     Server.to_each (Server.holds 1) Server.elsewhere was
     ++ (5, Message (server.RoomState 1 3 (Server.users_of v.state.sessions (remove (insert (Server.without_actor v.links 1) 5 (Server.with_session bare_link 1 None)) 5))))
@@ -42,8 +42,8 @@ before_the_event : (v : Server.Server) (u : TakenUpdate) (e : Json) (os : List O
     ≡ (1, Message (server.Update (v.state.count + 1) (ops_of u))) ∷ (2, Message (server.Update (v.state.count + 1) (ops_of u)))
     ∷ (2, Message (server.Broadcast 1 e)) ∷ []
 before_the_event v u e os h i =
-    let sent : Down = Message (server.Update (v.state.count + 1) (ops_of u)) in
-    let told : List (ℕ × Link) → List (ℕ × Down) = λ es. Server.to_each Server.has_session (Message (server.Broadcast 1 e)) es in
+    let sent : Outbound = Message (server.Update (v.state.count + 1) (ops_of u)) in
+    let told : List (ℕ × Link) → List (ℕ × Outbound) = λ es. Server.to_each Server.has_session (Message (server.Broadcast 1 e)) es in
     ap (λ es. Server.to_each Server.has_fetched sent es ++ (told (entries (remove v.links 1)) ++ [])) h
     ∙ ap (λ es. (1, sent) ∷ (2, sent) ∷ (told es ++ [])) i
 

@@ -44,7 +44,9 @@ fits_word rule word = bytes_eq rule word || bytes_eq rule (codes "*")
 abbrev pub decide_from : ℕ → List Rule → List ℕ → List ℕ → Decision
 decide_from n [] room group = record { level = Nothing; row = None }
 decide_from n (r ∷ rs) room group =
-    if fits_word r.room room && fits_word r.group group then record { level = r.level; row = Some n } else decide_from (suc n) rs room group
+    if fits_word r.room room && fits_word r.group group
+    then record { level = r.level; row = Some n }
+    else decide_from (suc n) rs room group
 
 abbrev pub decide : List Rule → List ℕ → List ℕ → Decision
 decide policy room group = decide_from 0 policy room group

@@ -13,7 +13,7 @@ use Rattle.room_model.specs.Presence.{others_value}
 use Rattle.room_model.specs.Notices.{Notice, notices_value}
 use Rattle.room_model.specs.Account.{Account, shown, unacknowledged}
 use Rattle.room_model.specs.Calls.{BatchFault, InBatch, NoBatch, UndoFault, UndoInBatch, UndoClocksSpent, UndoBatchTooLarge, UndoTooLarge, SayFault, NotConnected, ValueTooDeep as SayTooDeep, TooLarge}
-use Rattle.room_model.specs.Comes.{FrameFault, BadServerFrame, Unexpected, NotATree, Gap, AccountFault, Parts}
+use Rattle.room_model.specs.Receive.{FrameFault, BadServerFrame, Unexpected, NotATree, Gap, AccountFault, Parts}
 use Rattle.room_model.specs.Server.{reason_text}
 use Rattle.room_log.specs.Log.{State}
 
@@ -48,11 +48,11 @@ pub data Question : Type 0 where
   ShowHistory : Question
   ShowNotices : Question
 
--- what happens on a connection: the server takes the next frame, the client or the link takes what comes next, the server
--- notices that the connection is gone, and a text is sent on a link
+-- what happens on a connection: the server receives the next frame (up), the client or the link receives the next one
+-- (down), the server notices that the connection is gone, and a text is sent on a link
 pub data Traffic : Type 0 where
-  GoesUp : Traffic
-  ComesDown : Traffic
+  Up : Traffic
+  Down : Traffic
   Gone : Traffic
   Raw : (text : List ℕ) → Traffic
 
@@ -125,8 +125,8 @@ refused_line line ws = words (codes "refused" ∷ decimal line ∷ ws)
 abbrev pub nothing_line : ℕ → List ℕ
 nothing_line line = words (codes "nothing" ∷ decimal line ∷ [])
 
--- Of a client: its mark, the updates that it took, its batches that aren't acknowledged, and the tree that it shows. The
--- mark of a client is its number in a schedule; a script has one client, whose lines have no mark.
+-- Of a client: its mark, the updates that it took, its batches that aren't acknowledged, and the tree that it shows.
+-- The mark of a client is its number in a schedule; a script has one client, whose lines have no mark.
 
 abbrev pub mark_words : Option ℕ → List (List ℕ)
 mark_words None = []

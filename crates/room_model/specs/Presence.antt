@@ -65,7 +65,9 @@ kept_names (n ∷ ns) ks = if is_among n ks then n ∷ kept_names ns ks else kep
 abbrev pub unsent_members : List (List ℕ) → List (List ℕ) → List (List ℕ × Value) → List (List ℕ × Value)
 unsent_members unsent held [] = []
 unsent_members unsent held (f ∷ fs) =
-    if is_among f.0 unsent && not (is_among f.0 held) then f ∷ unsent_members unsent held fs else unsent_members unsent held fs
+    if is_among f.0 unsent && not (is_among f.0 held)
+    then f ∷ unsent_members unsent held fs
+    else unsent_members unsent held fs
 
 -- the old value of each key of a patch, null for one that wasn't there
 

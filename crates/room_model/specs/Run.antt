@@ -13,7 +13,12 @@ pub record Run : Type 0 where
 
 -- the run after a step
 abbrev pub with_step : Run → Stepped → Run
-with_step r out = record { world = out.world; log = r.log ++ out.entries; issued = r.issued ++ out.issues; given = r.given ++ out.given }
+with_step r out = record {
+  world = out.world;
+  log = r.log ++ out.entries;
+  issued = r.issued ++ out.issues;
+  given = r.given ++ out.given;
+}
 
 abbrev pub line : Run → ℕ → Line → Run
 line r number l = with_step r (step r.world number l)

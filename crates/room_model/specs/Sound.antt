@@ -27,8 +27,8 @@ use Rattle.room_model.specs.History.{History}
 use Rattle.room_model.specs.Presence.{Others}
 use Rattle.room_model.specs.Account.{Account, Batch, OpenBatch, Stage, Synced, issued, ends, bodies_in, frame_of_event, size_of, most_bytes}
 use Rattle.room_model.specs.Calls.{entry_bodies, presence_size}
-use Rattle.room_model.specs.Comes.{parts_items}
-use Rattle.room_model.specs.Server.{Up}
+use Rattle.room_model.specs.Receive.{parts_items}
+use Rattle.room_model.specs.Server.{Inbound}
 use Rattle.room_model.specs.Lines as lines
 use Rattle.room_model.specs.Lines.{Line}
 
@@ -73,7 +73,11 @@ pub record HoldsOnly (P : List Change → Type 0) (h : History) : Type 0 where
 -- the clocks of these batches run on by ones after c, and none is empty
 abbrev pub RunsOn : ℕ → List Batch → Type 0
 RunsOn c [] = ⊤
-RunsOn c (b ∷ bs) = record { first : b.first ≡ c + 1; some : 0 < length b.bodies; more : RunsOn (c + length b.bodies) bs }
+RunsOn c (b ∷ bs) = record {
+  first : b.first ≡ c + 1;
+  some : 0 < length b.bodies;
+  more : RunsOn (c + length b.bodies) bs;
+}
 
 -- the clocks of an account run on from the last acknowledged one
 abbrev pub ClocksRunOn : Account → Type 0
@@ -95,7 +99,8 @@ pub record AreOwn (told : ℕ) (bs : List Batch) (o : Option OpenBatch) : Type 0
   pub changes : AreValidChanges (changes_in o)
   pub next : ends told bs + 1 + length (bodies_in o) ≤ most + 1
 
--- before the first state a client has made no operation: nothing is issued, and what goes back are patches of its presence
+-- before the first state a client has made no operation: nothing is issued, and what goes back are patches of its
+-- presence
 
 abbrev pub ArePatches : List Change → Type 0
 ArePatches cs = entry_bodies cs ≡ []
@@ -182,7 +187,7 @@ IsSoundEdit (edits.Take x n) = IsNodeInRange x
 IsSoundEdit (edits.Clear x) = IsNodeInRange x
 
 -- what is read of a frame is sound, as its reader says, and no deeper than the levels of a frame make it
-abbrev pub IsReadSound : Up → Type 0
+abbrev pub IsReadSound : Inbound → Type 0
 IsReadSound (Err reason) = ⊤
 IsReadSound (Ok f) = IsSoundClientFrame f × IsShallowClientFrame f
 
@@ -208,8 +213,8 @@ IsCall lines.Resend = ⊤
 IsCall lines.Cut = ⊤
 
 abbrev pub IsTraffic : lines.Traffic → Type 0
-IsTraffic lines.GoesUp = ⊤
-IsTraffic lines.ComesDown = ⊤
+IsTraffic lines.Up = ⊤
+IsTraffic lines.Down = ⊤
 IsTraffic lines.Gone = ⊤
 IsTraffic (lines.Raw text) = IsReadSound (client_frame_in text)
 

@@ -10,26 +10,26 @@ use Rattle.room_log.specs.Log.{State}
 use Rattle.room_model.specs.Account.{Account}
 use Rattle.room_model.specs.Edits.{EditFault}
 use Rattle.room_model.specs.Calls as calls
-use Rattle.room_model.specs.Comes
+use Rattle.room_model.specs.Receive
 use Rattle.room_model.specs.Server
-use Rattle.room_model.specs.Server.{Down, Pong, Message, Closed, Up, Served}
+use Rattle.room_model.specs.Server.{Outbound, Pong, Message, Closed, Inbound, Served}
 use Rattle.room_model.specs.Lines as lines
 use Rattle.room_model.specs.World
-use Rattle.room_model.specs.World.{World, Conn, Seat, Host, Running, Stopped, seat, seat_in, account}
+use Rattle.room_model.specs.World.{World, Conn, Slot, Host, Running, Stopped, slot, slot_in, account}
 use Rattle.room_model.specs.Run.{line}
-use Rattle.room_laws.specs.Events.{Event, Called, Came, Ended, done_or, account_or, back_or, took_or, happened, happen, if_own, comes_as, owned_events, down_events, traffic_events, moved_events, line_events, events, FollowsEvents}
+use Rattle.room_laws.specs.Events.{Event, Called, Arrived, Ended, done_or, account_or, back_or, received_or, happened, happen, if_own, arrives_as, owned_events, outbound_events, traffic_events, moved_events, line_events, events, FollowsEvents}
 use Rattle.room_laws.specs.Moves.{move, where_some}
-use Rattle.room_laws.proofs.Calls.{seat_same, seat_other}
-use Rattle.room_laws.proofs.Single.{one_comes}
+use Rattle.room_laws.proofs.Calls.{slot_same, slot_other}
+use Rattle.room_laws.proofs.Single.{receive_one}
 
-send_clients : (w : World) (k : ℕ) (us : List Up) (b : Bool) (o : Option Conn) → (World.ups_on w k us b o).clients ≡ w.clients
+send_clients : (w : World) (k : ℕ) (us : List Inbound) (b : Bool) (o : Option Conn) → (World.inbounds_on w k us b o).clients ≡ w.clients
 send_clients w k us true (Some q) = refl
 send_clients w k us true None = refl
 send_clients w k us false o = refl
 
 present_clients : (w : World) (o : Option ℕ) (fs : List (List ClientMsg)) → (World.send_present w o fs).clients ≡ w.clients
 present_clients w None fs = refl
-present_clients w (Some k) fs = send_clients w k (map World.frame_up fs) (World.is_attached w k) (get w.conns k)
+present_clients w (Some k) fs = send_clients w k (map World.inbound_frame fs) (World.is_attached w k) (get w.conns k)
 
 cut_clients : (w : World) (o : Option ℕ) → (World.cut_present w o).clients ≡ w.clients
 cut_clients w None = refl
@@ -45,14 +45,14 @@ answered_clients : (w : World) (v : Server.Server) (k : ℕ) (out : Served) (b :
 answered_clients w v k out (World.Intact f) = refl
 answered_clients w v k out (World.Fires call how) = fires_clients w (World.state_with v.state out.entry) v.state (World.is_kept call how) (World.entries_in out.entry)
 
-up_clients : (w : World) (k : ℕ) (g : Host) (q : Conn) (us : List Up) → (World.up_from w k g q us).world.clients ≡ w.clients
-up_clients w k (Running v) q (u ∷ us) = answered_clients (World.with_conn w k (record q { up = us })) v k (Server.serve v k u) (World.burn (World.commit_calls (Server.serve v k u).entry) w.fuse)
-up_clients w k (Running v) q [] = refl
-up_clients w k (Stopped s) q us = refl
+inbound_clients : (w : World) (k : ℕ) (g : Host) (q : Conn) (us : List Inbound) → (World.inbound_from w k g q us).world.clients ≡ w.clients
+inbound_clients w k (Running v) q (u ∷ us) = answered_clients (World.with_conn w k (record q { inbound = us })) v k (Server.serve v k u) (World.burn (World.commit_calls (Server.serve v k u).entry) w.fuse)
+inbound_clients w k (Running v) q [] = refl
+inbound_clients w k (Stopped s) q us = refl
 
-goes_up_clients : (w : World) (k : ℕ) (o : Option Conn) → (World.up_at w k o).world.clients ≡ w.clients
-goes_up_clients w k None = refl
-goes_up_clients w k (Some q) = up_clients w k w.host q q.up
+server_receives_clients : (w : World) (k : ℕ) (o : Option Conn) → (World.inbound_at w k o).world.clients ≡ w.clients
+server_receives_clients w k None = refl
+server_receives_clients w k (Some q) = inbound_clients w k w.host q q.inbound
 
 gone_clients : (w : World) (k : ℕ) (g : Host) (b : Bool) → (World.gone_on w k g b).clients ≡ w.clients
 gone_clients w k (Running v) true = refl
@@ -93,7 +93,7 @@ happen-append x (e ∷ es) fs = happen-append (happened x e) es fs
 
 module _ (c : ℕ) where
   same : (v w : World) → v.clients ≡ w.clients → account v c ≡ account w c
-  same v w e = ap (λ (m : FinMap nat_cmp Seat). (seat_in (get m c)).account) e
+  same v w e = ap (λ (m : FinMap nat_cmp Slot). (slot_in (get m c)).account) e
 
   -- what happens to another client, or to this one
   own : (w v : World) (d : ℕ) (es : List Event) → (d ≡ c → account v c ≡ happen (account w c) es) → ((d ≡ c → ⊥) → account v c ≡ account w c) → account v c ≡ happen (account w c) (if_own c d es)
@@ -102,23 +102,23 @@ module _ (c : ℕ) where
       (λ e. g e ∙ ap (λ b. happen (account w c) (cond b es [])) (sym (ne_eqb d c e)))
       (cases_eq d c)
 
-  -- the client d comes to have this seat
-  put : (w u : World) (d : ℕ) (q : Seat) (es : List Event) → u.clients ≡ w.clients → q.account ≡ happen (account w d) es → account (World.with_seat u d q) c ≡ happen (account w c) (if_own c d es)
-  put w u d q es i e = own w (World.with_seat u d q) d es
-      (λ j. subst (λ n. account (World.with_seat u d q) n ≡ happen (account w n) es) j (ap (λ (z : Seat). z.account) (seat_same u d q) ∙ e))
-      (λ j. ap (λ (z : Seat). z.account) (seat_other u d c q (λ k. j (sym k))) ∙ same u w i)
+  -- the client d comes to have this slot
+  put : (w u : World) (d : ℕ) (q : Slot) (es : List Event) → u.clients ≡ w.clients → q.account ≡ happen (account w d) es → account (World.with_slot u d q) c ≡ happen (account w c) (if_own c d es)
+  put w u d q es i e = own w (World.with_slot u d q) d es
+      (λ j. subst (λ n. account (World.with_slot u d q) n ≡ happen (account w n) es) j (ap (λ (z : Slot). z.account) (slot_same u d q) ∙ e))
+      (λ j. ap (λ (z : Slot). z.account) (slot_other u d c q (λ k. j (sym k))) ∙ same u w i)
 
   -- with that client left as it was
   kept : (w v : World) (d : ℕ) (es : List Event) → v.clients ≡ w.clients → account w d ≡ happen (account w d) es → account v c ≡ happen (account w c) (if_own c d es)
   kept w v d es i e = own w v d es (λ j. same v w i ∙ subst (λ n. account w n ≡ happen (account w n) es) j e) (λ j. same v w i)
 
   -- and frames sent after it
-  put_sent : (w u v : World) (d : ℕ) (q : Seat) (es : List Event) → v.clients ≡ (World.with_seat u d q).clients → u.clients ≡ w.clients → q.account ≡ happen (account w d) es → account v c ≡ happen (account w c) (if_own c d es)
-  put_sent w u v d q es s i e = same v (World.with_seat u d q) s ∙ put w u d q es i e
+  put_sent : (w u v : World) (d : ℕ) (q : Slot) (es : List Event) → v.clients ≡ (World.with_slot u d q).clients → u.clients ≡ w.clients → q.account ≡ happen (account w d) es → account v c ≡ happen (account w c) (if_own c d es)
+  put_sent w u v d q es s i e = same v (World.with_slot u d q) s ∙ put w u d q es i e
 
   module _ (w : World) (number d : ℕ) where
-    abbrev p : Seat
-    p = seat w d
+    abbrev p : Slot
+    p = slot w d
 
     abbrev After : World → lines.Call → Type 0
     After v call = account v c ≡ happen (account w c) (if_own c d (Called call ∷ []))
@@ -147,17 +147,17 @@ module _ (c : ℕ) where
     speaks : (y : Account) (fs : List (List ClientMsg)) (es : List Event) → y ≡ happen p.account es → account (World.speaks w d p y fs).world c ≡ happen (account w c) (if_own c d es)
     speaks y fs es i =
         let q = World.with_account p y in
-        put_sent w w (World.send_present (World.with_seat w d q) p.present fs) d q es (present_clients (World.with_seat w d q) p.present fs) refl i
+        put_sent w w (World.send_present (World.with_slot w d q) p.present fs) d q es (present_clients (World.with_slot w d q) p.present fs) refl i
 
-    cuts : (y : Account) (es : List Event) → y ≡ happen p.account es → account (World.with_seat (World.cut_present w p.present) d (record { account = y; present = None; noticed = p.noticed })) c ≡ happen (account w c) (if_own c d es)
+    cuts : (y : Account) (es : List Event) → y ≡ happen p.account es → account (World.with_slot (World.cut_present w p.present) d (record { account = y; present = None; noticed = p.noticed })) c ≡ happen (account w c) (if_own c d es)
     cuts y es i = put w (World.cut_present w p.present) d (record { account = y; present = None; noticed = p.noticed }) es (cut_clients w p.present) i
 
-    dials : After (World.dial_seat w d p) lines.Dial
+    dials : After (World.dial_slot w d p) lines.Dial
     dials =
         let v = World.open_conn (World.cut_present w p.present) (Some d) in
-        let q : Seat = record { account = calls.dialled p.account; present = Some (w.opened + 1); noticed = p.noticed } in
-        let u = World.with_seat v d q in
-        put_sent w v (World.dial_seat w d p) d q (Called lines.Dial ∷ []) (send_clients u (w.opened + 1) _ (World.is_attached u (w.opened + 1)) (get u.conns (w.opened + 1))) (cut_clients w p.present) refl
+        let q : Slot = record { account = calls.dialled p.account; present = Some (w.opened + 1); noticed = p.noticed } in
+        let u = World.with_slot v d q in
+        put_sent w v (World.dial_slot w d p) d q (Called lines.Dial ∷ []) (send_clients u (w.opened + 1) _ (World.is_attached u (w.opened + 1)) (get u.conns (w.opened + 1))) (cut_clients w p.present) refl
 
     call_after : (call : lines.Call) → After (World.client_calls w number d p call).world call
     call_after lines.Dial = dials
@@ -177,37 +177,37 @@ module _ (c : ℕ) where
 
     -- what comes down
 
-    frame_after : (k : ℕ) (es : List Event) (r : Result Comes.Took Comes.Refusal) → ((out : Comes.Took) → r ≡ Ok out → out.account ≡ happen p.account es) → ((out : Comes.Refusal) → r ≡ Err out → out.account ≡ happen p.account es)
+    frame_after : (k : ℕ) (es : List Event) (r : Result Receive.Received Receive.Refusal) → ((out : Receive.Received) → r ≡ Ok out → out.account ≡ happen p.account es) → ((out : Receive.Refusal) → r ≡ Err out → out.account ≡ happen p.account es)
         → account (World.frame_taken w number d k p r).world c ≡ happen (account w c) (if_own c d es)
     frame_after k es (Err out) f g = cuts out.account es (g out refl)
     frame_after k es (Ok out) f g =
-        let q : Seat = record { account = out.account; present = p.present; noticed = out.notices } in
-        let u = World.with_seat w d q in
-        put_sent w w (World.send_up u k (map World.frame_up out.replies)) d q es (send_clients u k (map World.frame_up out.replies) (World.is_attached u k) (get u.conns k)) refl (f out refl)
+        let q : Slot = record { account = out.account; present = p.present; noticed = out.notices } in
+        let u = World.with_slot w d q in
+        put_sent w w (World.send_inbound u k (map World.inbound_frame out.replies)) d q es (send_clients u k (map World.inbound_frame out.replies) (World.is_attached u k) (get u.conns k)) refl (f out refl)
 
-    next_after : (k : ℕ) (m : ServerMsg) (r : Result Comes.Took Comes.FrameFault) → Comes.comes p.account m ≡ r
-        → account (World.frame_taken w number d k p (Comes.or_lost p.account r)).world c ≡ happen (account w c) (if_own c d (Came m ∷ []))
-    next_after k m (Err fault) i = cuts (calls.lost p.account) (Came m ∷ []) (sym (ap (took_or p.account) i))
+    next_after : (k : ℕ) (m : ServerMsg) (r : Result Receive.Received Receive.FrameFault) → Receive.receive p.account m ≡ r
+        → account (World.frame_taken w number d k p (Receive.or_lost p.account r)).world c ≡ happen (account w c) (if_own c d (Arrived m ∷ []))
+    next_after k m (Err fault) i = cuts (calls.lost p.account) (Arrived m ∷ []) (sym (ap (received_or p.account) i))
     next_after k m (Ok out) i =
-        let q : Seat = record { account = out.account; present = p.present; noticed = out.notices } in
-        let u = World.with_seat w d q in
-        put_sent w w (World.send_up u k (map World.frame_up out.replies)) d q (Came m ∷ []) (send_clients u k (map World.frame_up out.replies) (World.is_attached u k) (get u.conns k)) refl (sym (ap (took_or p.account) i))
+        let q : Slot = record { account = out.account; present = p.present; noticed = out.notices } in
+        let u = World.with_slot w d q in
+        put_sent w w (World.send_inbound u k (map World.inbound_frame out.replies)) d q (Arrived m ∷ []) (send_clients u k (map World.inbound_frame out.replies) (World.is_attached u k) (get u.conns k)) refl (sym (ap (received_or p.account) i))
 
-    takes_after : (k : ℕ) (m : Down) → account (World.client_takes w number d k p m).world c ≡ happen (account w c) (if_own c d (comes_as m))
+    takes_after : (k : ℕ) (m : Outbound) → account (World.client_takes w number d k p m).world c ≡ happen (account w c) (if_own c d (arrives_as m))
     takes_after k Pong =
-        let q : Seat = record { account = p.account; present = p.present; noticed = [] } in
-        let u = World.with_seat w d q in
-        put_sent w w (World.send_up u k []) d q [] (send_clients u k [] (World.is_attached u k) (get u.conns k)) refl refl
-    takes_after k (Message n) = subst (λ r. account (World.frame_taken w number d k p r).world c ≡ happen (account w c) (if_own c d (Came n ∷ []))) (sym (one_comes p.account n)) (next_after k n (Comes.comes p.account n) refl)
+        let q : Slot = record { account = p.account; present = p.present; noticed = [] } in
+        let u = World.with_slot w d q in
+        put_sent w w (World.send_inbound u k []) d q [] (send_clients u k [] (World.is_attached u k) (get u.conns k)) refl refl
+    takes_after k (Message n) = subst (λ r. account (World.frame_taken w number d k p r).world c ≡ happen (account w c) (if_own c d (Arrived n ∷ []))) (sym (receive_one p.account n)) (next_after k n (Receive.receive p.account n) refl)
     takes_after k (Closed code text) = cuts (calls.lost p.account) (Ended ∷ []) refl
 
-  -- with the queue down one shorter, which no account sees
-  link_after : (w : World) (k : ℕ) (m : Down) → account (World.link_takes w k m).world c ≡ account w c
+  -- with the outbound queue one shorter, which no account sees
+  link_after : (w : World) (k : ℕ) (m : Outbound) → account (World.link_takes w k m).world c ≡ account w c
   link_after w k Pong = refl
   link_after w k (Message m) = refl
   link_after w k (Closed code text) = refl
 
-  owner_after : (w : World) (number k : ℕ) (m : Down) (ms : List Down) (o : Option ℕ) → account (World.owner_takes w number k m o).world c ≡ happen (account w c) (owned_events c o (m ∷ ms))
+  owner_after : (w : World) (number k : ℕ) (m : Outbound) (ms : List Outbound) (o : Option ℕ) → account (World.owner_takes w number k m o).world c ≡ happen (account w c) (owned_events c o (m ∷ ms))
   owner_after w number k m ms None = link_after w k m
   owner_after w number k m ms (Some d) = takes_after w number d k m
 
@@ -215,19 +215,19 @@ module _ (c : ℕ) where
   own_none w None = refl
   own_none w (Some d) = kept w w d [] refl refl
 
-  from_after : (w : World) (number k : ℕ) (q : Conn) (ds : List Down) → account (World.down_from w number k q ds).world c ≡ happen (account w c) (owned_events c q.owner ds)
+  from_after : (w : World) (number k : ℕ) (q : Conn) (ds : List Outbound) → account (World.outbound_from w number k q ds).world c ≡ happen (account w c) (owned_events c q.owner ds)
   from_after w number k q [] = own_none w q.owner
-  from_after w number k q (m ∷ ms) = owner_after (World.with_conn w k (record q { down = ms })) number k m ms q.owner
+  from_after w number k q (m ∷ ms) = owner_after (World.with_conn w k (record q { outbound = ms })) number k m ms q.owner
 
-  down_after : (w : World) (number k : ℕ) (o : Option Conn) → account (World.down_at w number k o).world c ≡ happen (account w c) (down_events c o)
-  down_after w number k None = refl
-  down_after w number k (Some q) = from_after w number k q q.down
+  outbound_after : (w : World) (number k : ℕ) (o : Option Conn) → account (World.outbound_at w number k o).world c ≡ happen (account w c) (outbound_events c o)
+  outbound_after w number k None = refl
+  outbound_after w number k (Some q) = from_after w number k q q.outbound
 
   -- any line
 
   conn_after : (w : World) (number k : ℕ) (traffic : lines.Traffic) → account (World.conn_line w number k traffic).world c ≡ happen (account w c) (traffic_events w c k traffic)
-  conn_after w number k lines.GoesUp = same (World.goes_up w k).world w (goes_up_clients w k (get w.conns k))
-  conn_after w number k lines.ComesDown = down_after w number k (get w.conns k)
+  conn_after w number k lines.Up = same (World.server_receives w k).world w (server_receives_clients w k (get w.conns k))
+  conn_after w number k lines.Down = outbound_after w number k (get w.conns k)
   conn_after w number k lines.Gone = same (World.goes w k) w (gone_clients w k w.host (World.is_attached w k))
   conn_after w number k (lines.Raw text) = same (World.raw_at w k text (get w.conns k)) w (raw_clients w k text (get w.conns k))
 
@@ -248,21 +248,21 @@ module _ (c : ℕ) where
   stays w number (suc n) e = ap (λ o. account (World.drain (World.or_quiet w o).world number n).world c) e ∙ stays w number n e
 
   module _ (w : World) (number n : ℕ) (rest : (v : World) → account (World.drain v number n).world c ≡ happen (account v c) (moved_events n v number c)) where
-    next_move_after : (up down : Option ℕ) → World.least World.has_up (entries w.conns) ≡ up → World.least World.has_down (entries w.conns) ≡ down →
-        account (World.drain (World.or_quiet w (World.drain_step w number up down)).world number n).world c
-        ≡ happen (account w c) (where_some (move up down) (λ m. traffic_events w c m.0 m.1 ++ moved_events n (World.conn_line w number m.0 m.1).world number c))
-    next_move_after (Some k) down e f =
-        rest (World.goes_up w k).world ∙ ap (λ z. happen z (moved_events n (World.goes_up w k).world number c)) (conn_after w number k lines.GoesUp)
+    next_move_after : (inbound outbound : Option ℕ) → World.least World.has_inbound (entries w.conns) ≡ inbound → World.least World.has_outbound (entries w.conns) ≡ outbound →
+        account (World.drain (World.or_quiet w (World.drain_step w number inbound outbound)).world number n).world c
+        ≡ happen (account w c) (where_some (move inbound outbound) (λ m. traffic_events w c m.0 m.1 ++ moved_events n (World.conn_line w number m.0 m.1).world number c))
+    next_move_after (Some k) outbound e f =
+        rest (World.server_receives w k).world ∙ ap (λ z. happen z (moved_events n (World.server_receives w k).world number c)) (conn_after w number k lines.Up)
     next_move_after None (Some k) e f =
-        rest (World.comes_down w number k).world ∙ ap (λ z. happen z (moved_events n (World.comes_down w number k).world number c)) (conn_after w number k lines.ComesDown)
-        ∙ sym (happen-append (account w c) (traffic_events w c k lines.ComesDown) (moved_events n (World.comes_down w number k).world number c))
+        rest (World.peer_receives w number k).world ∙ ap (λ z. happen z (moved_events n (World.peer_receives w number k).world number c)) (conn_after w number k lines.Down)
+        ∙ sym (happen-append (account w c) (traffic_events w c k lines.Down) (moved_events n (World.peer_receives w number k).world number c))
     next_move_after None None e f =
-        stays w number n (ap (λ o. World.drain_step w number o (World.least World.has_down (entries w.conns))) e ∙ ap (World.drain_step w number None) f)
+        stays w number n (ap (λ o. World.drain_step w number o (World.least World.has_outbound (entries w.conns))) e ∙ ap (World.drain_step w number None) f)
 
   drains : (number n : ℕ) (w : World) → account (World.drain w number n).world c ≡ happen (account w c) (moved_events n w number c)
   unfolding World.drain
   drains number zero w = refl
-  drains number (suc n) w = next_move_after w number n (drains number n) (World.least World.has_up (entries w.conns)) (World.least World.has_down (entries w.conns)) refl refl
+  drains number (suc n) w = next_move_after w number n (drains number n) (World.least World.has_inbound (entries w.conns)) (World.least World.has_outbound (entries w.conns)) refl refl
 
   pub step_after : (w : World) (number : ℕ) (l : lines.Line) → account (World.step w number l).world c ≡ happen (account w c) (line_events w c number l)
   step_after w number (lines.OfClient d call) = call_after w number d call
