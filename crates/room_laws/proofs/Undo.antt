@@ -14,7 +14,7 @@ use Rattle.room_model.specs.Run.{Run, run, line, opened, issued_of, IsUndisturbe
 use Rattle.room_laws.specs.Accounts.{KeepsSound as AccountsSound}
 use Rattle.room_laws.specs.Always.{AlwaysUndo, AlwaysUndone, lines_behind, lines_of}
 use Rattle.room_laws.specs.Ledger.{In}
-use Rattle.room_laws.specs.Undo.{Course, Goes, Lies, before, call_of, call_of_direction, made_in, ready, taken_back, until, taking_back, whole}
+use Rattle.room_laws.specs.Undo.{Course, Goes, Lies, before, call_back, call_of, made_in, ready, taken_back, until, whole}
 use Rattle.room_laws.specs.Undoing.{TakesBack, bodies_after}
 use Rattle.room_laws.specs.Validity.{ReadableRun, SoundAccounts, ValidRun}
 use Rattle.room_laws.proofs.IssuedSound.{issued_valid}
@@ -51,7 +51,7 @@ issued_at r n c l b e = subst (In b) (sym (issued_of-append c r.issued (World.st
 -- a course is the run over its lines
 whole_is : (s : State) (q : Course) (c : ℕ) → run (opened s) (lines_of q c) ≡ whole s q c
 whole_is s q c =
-    let undoing = (q.back, lines.OfClient c (call_of_direction (taking_back q.maker))) ∷ q.rest in
+    let undoing = (q.back, lines.OfClient c (call_back q.maker)) ∷ q.rest in
     let ending = (q.last, lines.OfClient c (call_of q.maker)) ∷ (q.until ++ undoing) in
     run-append q.before (q.within ++ ending) (opened s)
     ∙ run-append q.within ending (before s q)
@@ -62,13 +62,13 @@ takes_back : (s : State) (q : Course) (c : ℕ) (t : Nodes) (made back : Batch) 
 takes_back s q c t made back us vs ws b u g h = record {
   log = h.log;
   taken = record {
-    issued = stays (taken_back s q c) q.rest c made (stays_line (until s q c) q.back c (lines.OfClient c (call_of_direction (taking_back q.maker))) made
+    issued = stays (taken_back s q c) q.rest c made (stays_line (until s q c) q.back c (lines.OfClient c (call_back q.maker)) made
         (stays (made_in s q c) q.until c made (issued_at (ready s q) q.last c (lines.OfClient c (call_of q.maker)) made g.issues)));
     actor = h.of_made;
     first = h.clock;
   };
   taken_back = record {
-    issued = stays (taken_back s q c) q.rest c back (issued_at (until s q c) q.back c (lines.OfClient c (call_of_direction (taking_back q.maker))) back g.undoes);
+    issued = stays (taken_back s q c) q.rest c back (issued_at (until s q c) q.back c (lines.OfClient c (call_back q.maker)) back g.undoes);
     actor = h.of_back;
     first = h.clock_back;
   };

@@ -15,7 +15,7 @@ use Rattle.room_model.specs.World.{Running, slot, account}
 use Rattle.room_model.specs.Run.{run, opened, IsUndisturbed}
 use Rattle.room_laws.specs.Invariant.{conn}
 use Rattle.room_laws.specs.Laws.{ShowsLog, Kept, spares_all}
-use Rattle.room_laws.specs.Undo.{Course, Goes, Lies, call_of, call_of_direction, taking_back, whole}
+use Rattle.room_laws.specs.Undo.{Course, Goes, Lies, call_back, call_of, whole}
 use Rattle.room_laws.specs.Undoing.{TakesBack, bodies_after}
 use Rattle.room_laws.specs.Validity.{AreLines}
 
@@ -57,7 +57,7 @@ AlwaysUndone =
 
 abbrev pub lines_behind : Course → ℕ → List (ℕ × Line)
 lines_behind q c = q.within ++ (q.last, lines.OfClient c (call_of q.maker)) ∷
-    (q.until ++ (q.back, lines.OfClient c (call_of_direction (taking_back q.maker))) ∷ q.rest)
+    (q.until ++ (q.back, lines.OfClient c (call_back q.maker)) ∷ q.rest)
 
 abbrev pub lines_of : Course → ℕ → List (ℕ × Line)
 lines_of q c = q.before ++ lines_behind q c

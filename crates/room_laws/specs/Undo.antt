@@ -40,6 +40,9 @@ call_of Ends = lines.End
 call_of (Edits e) = lines.Edits e
 call_of (Turns direction) = call_of_direction direction
 
+abbrev pub call_back : Maker → Call
+call_back m = call_of_direction (taking_back m)
+
 -- a call that doesn't end a batch
 abbrev pub EndsNone : Call → Type 0
 EndsNone lines.Dial = Unit {0}
@@ -91,7 +94,7 @@ abbrev pub until : State → Course → ℕ → Run
 until s q c = run (made_in s q c) q.until
 
 abbrev pub taken_back : State → Course → ℕ → Run
-taken_back s q c = line (until s q c) q.back (lines.OfClient c (call_of_direction (taking_back q.maker)))
+taken_back s q c = line (until s q c) q.back (lines.OfClient c (call_back q.maker))
 
 abbrev pub whole : State → Course → ℕ → Run
 whole s q c = run (taken_back s q c) q.rest
@@ -123,8 +126,7 @@ pub record Goes (s : State) (q : Course) (c : ℕ) (t : Nodes) (made back : Batc
   pub entry : List Change
   pub noted : entry_of (taking_back q.maker) (account (made_in s q c).world c).history ≡ Some entry
   pub next : entry_of (taking_back q.maker) (account (until s q c).world c).history ≡ Some entry
-  pub undoes :
-      (step (until s q c).world q.back (lines.OfClient c (call_of_direction (taking_back q.maker)))).issues ≡ (c, back) ∷ []
+  pub undoes : (step (until s q c).world q.back (lines.OfClient c (call_back q.maker))).issues ≡ (c, back) ∷ []
 
 -- then `back` is the reversal of `made` on t
 abbrev pub EachReversed : Type 0
