@@ -463,7 +463,7 @@ module _ (keep : KeepsSound) (items : ItemsOfValid) (n : ℕ) where
   server_line w lines.ShowServer h i = saying n _ w _ (at _ w h refl)
   server_line w lines.BriefServer h i = saying n _ w _ (at _ w h refl)
 
-  -- a line, of a world in which one more connection has room
+  -- a line, of a world in which one more connection may be opened
   pub step_stands : (w : World) (number : ℕ) (l : lines.Line) → IsSoundWorld n w → IsLine l → w.opened < n → IsKey n → Stands n (state_in w.host) (World.step w number l)
   step_stands w number (lines.OfClient c call) h i below key = client_calls n _ keep w number c (slot w c) (at _ w h refl) (h.clients c) call i.1 below key
   step_stands w number (lines.AsksClient c question) h i below key = saying n _ w _ (at _ w h refl)

@@ -157,7 +157,7 @@ abbrev pub moved_key : List (List ℕ × NodeId) → ℕ → ℕ → List ℕ
 moved_key cs f t =
     if nat_lt f t
     then (if t + 1 == length cs then after_position (key_at cs t)
-        else between_positions (key_at cs t) (Some (key_at cs (t + 1))))
+    else between_positions (key_at cs t) (Some (key_at cs (t + 1))))
     else (if t == 0 then before_position (key_at cs 0) else between_positions (key_at cs (t - 1)) (Some (key_at cs t)))
 
 -- the positions that an edit makes, in the order of its operations
@@ -260,7 +260,7 @@ make_of t c e n =
     if nat_lt 50 (value_depth e) then Err (ValueTooDeep (value_depth e)) else (
     if nat_lt 60 (made_depth n.kind (n.depth + 1) e) then Err (NodeTooDeep (made_depth n.kind (n.depth + 1) e)) else
     placed c (made_nodes n.kind e) (bodies n.kind cs (removed_child t e) c.actor c.node e)
-        (too_long (made_positions cs e))))
+    (too_long (made_positions cs e))))
 
 abbrev pub make_at : Nodes → Clocks → Edit → Option Node → Result Made EditFault
 make_at t c e None = Err (NoNode (target e))

@@ -150,7 +150,7 @@ abbrev mutual
   live_creates a c x no_parts = []
   live_creates a c x (part k i ps) =
       (if is_plain i then [] else creates a c x k None i)
-          ++ live_creates a (c + (if is_plain i then 0 else nodes_in i)) x ps
+      ++ live_creates a (c + (if is_plain i then 0 else nodes_in i)) x ps
 
   pub part_creates : ℕ → ℕ → NodeId → Parts → List Body
   part_creates a c x no_parts = []

@@ -208,7 +208,7 @@ path_out path = list (values_of (map place_out path))
 abbrev pub keyed_out : List ℕ → List Place → List (List ℕ × Value) → List (List ℕ) → Value
 keyed_out kind path set unset = object_of (
     (codes "kind", text kind) ∷ (codes "path", path_out path) ∷ (codes "set", members (fields_of set))
-        ∷ (codes "unset", list (values_of (map text unset))) ∷ [])
+    ∷ (codes "unset", list (values_of (map text unset))) ∷ [])
 
 abbrev pub notice_out : Notice → Value
 notice_out (Fields path set unset) = keyed_out (codes "fields") path set unset

@@ -59,8 +59,14 @@ once_on x kind out = if is_on x.stage then Ok out else Err (Unexpected kind)
 
 abbrev pub welcomed : Account → ℕ → ℕ → Received
 welcomed x a key = replying
-    (record x { stage = Connected; session = Some (record { actor = a; key = key }); sent = []; fresh = issued x;
-        unsent = []; others = nobody })
+    (record x {
+      stage = Connected;
+      session = Some (record { actor = a; key = key });
+      sent = [];
+      fresh = issued x;
+      unsent = [];
+      others = nobody;
+    })
     (frame_of_full x.me ∷ frame_of_fetch ∷ [])
 
 abbrev pub welcomed_as : Account → ℕ → ℕ → Option Resume → Result Received FrameFault

@@ -10,7 +10,6 @@
 use Rattle.std.specs.Prelude.{ℕ, zero, suc, ◌+◌, ◌-◌, Bool, true, false, ◌&&◌, if◌then◌else◌, nat_le, is_some, List, [], ◌∷◌, ◌++◌, map, codes, Option, Some, None, Result, Ok, Err}
 use Rattle.std.specs.Ordering.{nat_cmp}
 use Rattle.std.specs.FinMap.{FinMap, get, insert, entries, from_entries, empty}
-use Rattle.room_json.specs.declared.tree.Json.{Json}
 use Rattle.room_msg.specs.declared.messages.ClientMsg.{ClientMsg}
 use Rattle.room_msg.specs.declared.messages.ClientFrame.TheVariants.{Msgs as ClientMsgsOf}
 use Rattle.room_msg.specs.declared.messages.ServerFrame.TheVariants.{Pong as PongOf, Msgs as ServerMsgsOf}
@@ -193,7 +192,7 @@ dial_slot w c p =
     let k = w.opened + 1 in
     let x = dialled p.account in
     send_inbound (with_slot (open_conn (cut_present w p.present) (Some c)) c
-        (record { account = x; present = Some k; noticed = p.noticed }))
+    (record { account = x; present = Some k; noticed = p.noticed }))
     k (inbound_frame (hello_of x) ∷ [])
 
 -- the server's disk calls, and its stops
@@ -267,8 +266,13 @@ answered w v k out (Intact fuse) = record {
 }
 answered w v k out (Fires call how) =
     if is_kept call how
-    then record { world = stopped w (state_with v.state out.entry); lines = []; entries = entries_in out.entry;
-        issues = []; given = [] }
+    then record {
+      world = stopped w (state_with v.state out.entry);
+      lines = [];
+      entries = entries_in out.entry;
+      issues = [];
+      given = [];
+    }
     else quiet (stopped w v.state)
 
 abbrev pub answer : World → Server → ℕ → Served → Stepped
@@ -303,7 +307,7 @@ frame_taken w line c k p (Err out) = saying
     (Lines.refused_line line (Lines.frame_fault_words out.fault) ∷ [])
 frame_taken w line c k p (Ok out) = saying
     (send_inbound (with_slot w c (record { account = out.account; present = p.present; noticed = out.notices })) k
-        (map inbound_frame out.replies))
+    (map inbound_frame out.replies))
     (Lines.event_lines (Some c) out.events)
 
 abbrev pub client_takes : World → ℕ → ℕ → ℕ → Slot → Outbound → Stepped
@@ -380,8 +384,11 @@ issued_by c (b ∷ bs) = (c, b) ∷ issued_by c bs
 -- a call that answered notices, or none of its own
 abbrev pub done_noticed : World → ℕ → Slot → Done → Stepped
 done_noticed w c p out =
-    record (quiet (with_slot w c (record { account = out.account; present = p.present;
-    noticed = out.notices }))) { issues = issued_by c out.issues }
+    record (quiet (with_slot w c (record {
+      account = out.account;
+      present = p.present;
+      noticed = out.notices;
+    }))) { issues = issued_by c out.issues }
 
 abbrev pub done_quiet : World → ℕ → Slot → Done → Stepped
 done_quiet w c p out = record (quiet (with_slot w c (with_account p out.account))) { issues = issued_by c out.issues }
@@ -440,8 +447,10 @@ gone_conn qs k (Some q) = insert qs k (record q { inbound = [] })
 
 abbrev pub gone_on : World → ℕ → Host → Bool → World
 gone_on w k (Running v) true =
-    let out = gone v k in record w { host = Running out.server;
-        conns = deliver (gone_conn w.conns k (get w.conns k)) out.outs }
+    let out = gone v k in record w {
+      host = Running out.server;
+      conns = deliver (gone_conn w.conns k (get w.conns k)) out.outs;
+    }
 gone_on w k (Running v) false = w
 gone_on w k (Stopped s) b = w
 
@@ -465,8 +474,10 @@ stop w (Stopped s) = w
 -- a start makes two calls of the disk
 abbrev pub started : World → State → Burnt → Stepped
 started w s (Intact fuse) = saying
-    (record w { host = Running (record { state = s; room = room; limits = w.limits; access = None; links = empty });
-        fuse = fuse })
+    (record w {
+      host = Running (record { state = s; room = room; limits = w.limits; access = None; links = empty });
+      fuse = fuse;
+    })
     (Lines.start_line s ∷ [])
 started w s (Fires call how) = saying (stopped w s) (Lines.start_failed_line ∷ [])
 
