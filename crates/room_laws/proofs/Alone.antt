@@ -15,7 +15,8 @@ use Rattle.room_model.specs.History
 use Rattle.room_model.specs.History.{History}
 use Rattle.room_model.specs.Account.{Account, Batch, OpenBatch, issued, all_bodies, bodies_in, shown, shown_over, clocks, is_some_list}
 use Rattle.room_model.specs.Calls as calls
-use Rattle.room_laws.specs.Back.{in_bag, entries, back_of, open_back, LeadsBack, Leads, Reverses, Undoes, UndoesAlone}
+use Rattle.room_model.specs.Sound.{changes_in}
+use Rattle.room_laws.specs.Back.{in_bag, entries, back_of, open_back, gathered_count, noted_count, noted_of, edit_count, patch_count, presence_count, LeadsBack, Reverses, Undoes, UndoesAlone}
 use Rattle.room_laws.proofs.Settled.{fold-append}
 use Rattle.room_laws.proofs.Open.{entry-append, entry_of_bodies, back_is, edit_as, no_bodies}
 use Rattle.room_laws.proofs.Facts.{ok_is, some_is, under}
@@ -42,11 +43,6 @@ pub record Held (k : ℕ) (bs : List Body) (h : History) : Type 0 where
   pub few : k ≤ 50
   pub begun : k ≡ 0 → in_bag h.bag ≡ []
 
-pub record HeldAs (k : ℕ) (bs : List Body) (h : History) : Type 0 where
-  pub count : ℕ
-  pub grown : count ≤ suc k
-  pub held : Held count bs h
-
 bag_clash : (k : ℕ) (c : Change) (cs : List Change) → (k ≡ 0 → in_bag (Some (c ∷ cs)) ≡ []) → 0 < k
 bag_clash zero c cs f = absurd (no (f refl))
   where
@@ -55,42 +51,30 @@ bag_clash zero c cs f = absurd (no (f refl))
 bag_clash (suc k) c cs f = omega arith
 
 -- an entry c ∷ cs is noted, by what the bag is
-noted_held : (k : ℕ) (c : Change) (cs : List Change) (u r : List (List Change)) (b : Option (List Change)) → k < 50 → Held k (back_of k (in_bag b ++ u)) (record { undo = u; redo = r; bag = b })
-    → HeldAs k (calls.entry_bodies (c ∷ cs) ++ back_of k (in_bag b ++ u)) (History.noted (c ∷ cs) (record { undo = u; redo = r; bag = b }) b)
+noted_held : (k : ℕ) (c : Change) (cs : List Change) (u r : List (List Change)) (b : Option (List Change)) → gathered_count b k ≤ 50 → Held k (back_of k (in_bag b ++ u)) (record { undo = u; redo = r; bag = b })
+    → Held (gathered_count b k) (calls.entry_bodies (c ∷ cs) ++ back_of k (in_bag b ++ u)) (History.noted (c ∷ cs) (record { undo = u; redo = r; bag = b }) b)
 noted_held k c cs u r None l h = record {
-  count = suc k;
-  grown = omega arith;
-  held = record {
-    back = ap (λ bs. calls.entry_bodies (c ∷ cs) ++ bs) (take_back k 49 u (omega arith));
-    some = (let i = take_long k 49 u (omega arith) h.some in omega (arith, i));
-    few = omega arith;
-    begun = λ e. refl;
-  };
+  back = ap (λ bs. calls.entry_bodies (c ∷ cs) ++ bs) (take_back k 49 u (omega (arith, l)));
+  some = (let i = take_long k 49 u (omega (arith, l)) h.some in omega (arith, i));
+  few = l;
+  begun = λ e. refl;
 }
 noted_held k c cs u r (Some []) l h = record {
-  count = suc k;
-  grown = omega arith;
-  held = record {
-    back = ap (λ ds. calls.entry_bodies ds ++ back_of k u) (append-nil (c ∷ cs));
-    some = (let i = h.some in omega (arith, i));
-    few = omega arith;
-    begun = λ e. absurd (omega (arith, e));
-  };
+  back = ap (λ ds. calls.entry_bodies ds ++ back_of k u) (append-nil (c ∷ cs));
+  some = (let i = h.some in omega (arith, i));
+  few = l;
+  begun = λ e. absurd (omega (arith, e));
 }
 noted_held zero c cs u r (Some (d ∷ ds)) l h = absurd (omega (arith, bag_clash zero d ds h.begun))
 noted_held (suc k) c cs u r (Some (d ∷ ds)) l h = record {
-  count = suc k;
-  grown = omega arith;
-  held = record {
-    back = ap (λ bs. bs ++ back_of k u) (entry-append (c ∷ cs) (d ∷ ds)) ∙ append_assoc (calls.entry_bodies (c ∷ cs)) (calls.entry_bodies (d ∷ ds)) (back_of k u);
-    some = h.some;
-    few = omega arith;
-    begun = λ e. absurd (omega (arith, e));
-  };
+  back = ap (λ bs. bs ++ back_of k u) (entry-append (c ∷ cs) (d ∷ ds)) ∙ append_assoc (calls.entry_bodies (c ∷ cs)) (calls.entry_bodies (d ∷ ds)) (back_of k u);
+  some = h.some;
+  few = l;
+  begun = λ e. absurd (omega (arith, e));
 }
 
-note_held : (k : ℕ) (e : List Change) (h : History) → k < 50 → Held k (back_of k (entries h)) h → HeldAs k (calls.entry_bodies e ++ back_of k (entries h)) (History.note e h)
-note_held k [] h l g = record { count = k; grown = omega arith; held = g }
+note_held : (k : ℕ) (e : List Change) (h : History) → noted_count e h k ≤ 50 → Held k (back_of k (entries h)) h → Held (noted_count e h k) (calls.entry_bodies e ++ back_of k (entries h)) (History.note e h)
+note_held k [] h l g = g
 note_held k (c ∷ cs) h l g = noted_held k c cs h.undo h.redo h.bag l g
 
 resumed_held : (k : ℕ) (u r : List (List Change)) (b : Option (List Change)) → Held k (back_of k (in_bag b ++ u)) (record { undo = u; redo = r; bag = b })
@@ -125,7 +109,7 @@ undone_at k e rev u r (Some (c ∷ cs)) p h =
 
 -- what is shown
 
-all_bodies-append : (bs cs : List Batch) → all_bodies (bs ++ cs) ≡ all_bodies bs ++ all_bodies cs
+pub all_bodies-append : (bs cs : List Batch) → all_bodies (bs ++ cs) ≡ all_bodies bs ++ all_bodies cs
 all_bodies-append [] cs = refl
 all_bodies-append (b ∷ bs) cs = ap (λ ds. b.bodies ++ ds) (all_bodies-append bs cs) ∙ sym (append_assoc b.bodies (all_bodies bs) (all_bodies cs))
 
@@ -154,34 +138,34 @@ front_back : (t s : Nodes) (bs rs cs : List Body) → rs ≡ reverse_all t bs �
 front_back t s bs rs cs e r h = fold-append (fold t bs) rs cs ∙ ap (λ u. fold u cs) (ap (fold (fold t bs)) e ∙ r) ∙ h
 
 -- an undo that was done
-record BackAs (way : calls.Direction) (x : Account) (out : calls.Done) : Type 0 where
-  none : x.batch ≡ None
-  entry : List Change
-  is_entry : calls.entry_of way x.history ≡ Some entry
-  is : calls.went_back way x entry ≡ out
+pub record BackAs (direction : calls.Direction) (x : Account) (out : calls.Done) : Type 0 where
+  pub none : x.batch ≡ None
+  pub entry : List Change
+  pub is_entry : calls.entry_of direction x.history ≡ Some entry
+  pub is : calls.went_back direction x entry ≡ out
 
-as_presence : (way : calls.Direction) (x : Account) (e : List Change) (size : ℕ) (out : calls.Done) → calls.back_presence way x e size ≡ Ok (Some out) → calls.went_back way x e ≡ out
-as_presence way x e size out p = some_is (calls.went_back way x e) out (under (nat_lt _ size) _ (Some (calls.went_back way x e)) (Some out) p)
+as_presence : (direction : calls.Direction) (x : Account) (e : List Change) (size : ℕ) (out : calls.Done) → calls.back_presence direction x e size ≡ Ok (Some out) → calls.went_back direction x e ≡ out
+as_presence direction x e size out p = some_is (calls.went_back direction x e) out (under (nat_lt _ size) _ (Some (calls.went_back direction x e)) (Some out) p)
 
-as_sized : (way : calls.Direction) (x : Account) (e : List Change) (c : Bool) (fault : calls.UndoFault) (size : ℕ) (out : calls.Done) → cond c (Err fault) (calls.back_presence way x e size) ≡ Ok (Some out) → calls.went_back way x e ≡ out
-as_sized way x e true fault size out p = cc
-as_sized way x e false fault size out p = as_presence way x e size out p
+as_sized : (direction : calls.Direction) (x : Account) (e : List Change) (c : Bool) (fault : calls.UndoFault) (size : ℕ) (out : calls.Done) → cond c (Err fault) (calls.back_presence direction x e size) ≡ Ok (Some out) → calls.went_back direction x e ≡ out
+as_sized direction x e true fault size out p = cc
+as_sized direction x e false fault size out p = as_presence direction x e size out p
 
-as_clocked : (way : calls.Direction) (x : Account) (e : List Change) (bs : List Body) (o : Option ℕ) (out : calls.Done) → calls.back_clocked way x e bs o ≡ Ok (Some out) → calls.went_back way x e ≡ out
-as_clocked way x e bs (Some n) out p = cc
-as_clocked way x e bs None out p = as_sized way x e (is_some_list bs && nat_lt _ _) _ (calls.presence_size (calls.entry_presence x.me e)) out p
+as_clocked : (direction : calls.Direction) (x : Account) (e : List Change) (bs : List Body) (o : Option ℕ) (out : calls.Done) → calls.back_clocked direction x e bs o ≡ Ok (Some out) → calls.went_back direction x e ≡ out
+as_clocked direction x e bs (Some n) out p = cc
+as_clocked direction x e bs None out p = as_sized direction x e (is_some_list bs && nat_lt _ _) _ (calls.presence_size (calls.entry_presence x.me e)) out p
 
-as_entry : (way : calls.Direction) (x : Account) (o : Option (List Change)) (out : calls.Done) → x.batch ≡ None → calls.entry_of way x.history ≡ o → calls.back_entry way x o ≡ Ok (Some out) → BackAs way x out
-as_entry way x None out n f p = cc
-as_entry way x (Some e) out n f p = record { none = n; entry = e; is_entry = f; is = as_clocked way x e (calls.entry_bodies e) _ out p }
+as_entry : (direction : calls.Direction) (x : Account) (o : Option (List Change)) (out : calls.Done) → x.batch ≡ None → calls.entry_of direction x.history ≡ o → calls.back_entry direction x o ≡ Ok (Some out) → BackAs direction x out
+as_entry direction x None out n f p = cc
+as_entry direction x (Some e) out n f p = record { none = n; entry = e; is_entry = f; is = as_clocked direction x e (calls.entry_bodies e) _ out p }
 
-back_as : (way : calls.Direction) (x : Account) (o : Option OpenBatch) (out : calls.Done) → x.batch ≡ o → calls.back_at way x o ≡ Ok (Some out) → BackAs way x out
-back_as way x (Some o) out n p = cc
-back_as way x None out n p = as_entry way x (calls.entry_of way x.history) out n refl p
+pub back_as : (direction : calls.Direction) (x : Account) (o : Option OpenBatch) (out : calls.Done) → x.batch ≡ o → calls.back_at direction x o ≡ Ok (Some out) → BackAs direction x out
+back_as direction x (Some o) out n p = cc
+back_as direction x None out n p = as_entry direction x (calls.entry_of direction x.history) out n refl p
 
 -- what is shown, again
 
-shown_same : (x y : Account) (c : Option Nodes) → all_bodies (issued y) ++ bodies_in y.batch ≡ all_bodies (issued x) ++ bodies_in x.batch → shown_over y c ≡ shown_over x c
+pub shown_same : (x y : Account) (c : Option Nodes) → all_bodies (issued y) ++ bodies_in y.batch ≡ all_bodies (issued x) ++ bodies_in x.batch → shown_over y c ≡ shown_over x c
 shown_same x y None e = refl
 shown_same x y (Some c) e = ap (λ bs. Some (fold c bs)) e
 
@@ -192,51 +176,52 @@ longer_shown x y (Some c) t bs e f = ap (λ ds. Some (fold c ds)) f ∙ ap Some 
 -- an edit
 
 edited_leads : (s t : Nodes) (k : ℕ) (x : Account) (m : Made) (bs : List Body) (o : Option OpenBatch) → x.batch ≡ o → shown x ≡ Some t → fold t (open_back o ++ back_of k (entries x.history)) ≡ s
-    → Held k (back_of k (entries x.history)) x.history → k < 50 → Reverses t bs → Leads s k (calls.edited_in x t m bs o)
+    → Held k (back_of k (entries x.history)) x.history → noted_count (noted_of t (calls.edit_issues x bs o)) x.history k ≤ 50 → Reverses t bs → LeadsBack s (noted_count (noted_of t (calls.edit_issues x bs o)) x.history k) (calls.edited_in x t m bs o)
 edited_leads s t k x m bs (Some o) n e f h l r = record {
-  count = k;
-  grown = omega arith;
-  leads = record {
-    tree = fold t bs;
-    shows = longer_shown x (calls.edited_in x t m bs (Some o)) x.confirmed t bs e
-        (ap (λ z. all_bodies (issued x) ++ (bodies_in z ++ bs)) (sym n) ∙ sym (append_assoc (all_bodies (issued x)) (bodies_in x.batch) bs));
-    back = ap (λ z. fold (fold t bs) (z ++ back_of k (entries x.history))) (entry-append (calls.changes_back t bs) o.changes)
-        ∙ ap (fold (fold t bs)) (append_assoc (calls.entry_bodies (calls.changes_back t bs)) (calls.entry_bodies o.changes) (back_of k (entries x.history)))
-        ∙ front_back t s bs (calls.entry_bodies (calls.changes_back t bs)) (calls.entry_bodies o.changes ++ back_of k (entries x.history)) (back_is t bs) r f;
-    some = h.some;
-    few = h.few;
-    begun = h.begun;
-  };
+  tree = fold t bs;
+  shows = longer_shown x (calls.edited_in x t m bs (Some o)) x.confirmed t bs e
+      (ap (λ z. all_bodies (issued x) ++ (bodies_in z ++ bs)) (sym n) ∙ sym (append_assoc (all_bodies (issued x)) (bodies_in x.batch) bs));
+  back = ap (λ z. fold (fold t bs) (z ++ back_of k (entries x.history))) (entry-append (calls.changes_back t bs) o.changes)
+      ∙ ap (fold (fold t bs)) (append_assoc (calls.entry_bodies (calls.changes_back t bs)) (calls.entry_bodies o.changes) (back_of k (entries x.history)))
+      ∙ front_back t s bs (calls.entry_bodies (calls.changes_back t bs)) (calls.entry_bodies o.changes ++ back_of k (entries x.history)) (back_is t bs) r f;
+  some = h.some;
+  few = h.few;
+  begun = h.begun;
 }
 edited_leads s t k x m [] None n e f h l r = record {
-  count = k;
-  grown = omega arith;
-  leads = record { tree = t; shows = e; back = ap (λ z. fold t (open_back z ++ back_of k (entries x.history))) n ∙ f; some = h.some; few = h.few; begun = h.begun };
+  tree = t;
+  shows = e;
+  back = ap (λ z. fold t (open_back z ++ back_of k (entries x.history))) n ∙ f;
+  some = h.some;
+  few = h.few;
+  begun = h.begun;
 }
 edited_leads s t k x m (b ∷ bs) None n e f h l r =
+    let i = noted_count (calls.changes_back t (b ∷ bs)) x.history k in
     let g = note_held k (calls.changes_back t (b ∷ bs)) x.history l h in
     record {
-      count = g.count;
-      grown = g.grown;
-      leads = record {
-        tree = fold t (b ∷ bs);
-        shows = more_shown x (b ∷ bs) x.confirmed t e (ap bodies_in n) (calls.edited_in x t m (b ∷ bs) None) n refl refl;
-        back = ap (λ z. fold (fold t (b ∷ bs)) (open_back z ++ back_of g.count (entries (History.note (calls.changes_back t (b ∷ bs)) x.history)))) n
-            ∙ ap (fold (fold t (b ∷ bs))) g.held.back
-            ∙ front_back t s (b ∷ bs) (calls.entry_bodies (calls.changes_back t (b ∷ bs))) (back_of k (entries x.history)) (back_is t (b ∷ bs)) r f;
-        some = g.held.some;
-        few = g.held.few;
-        begun = g.held.begun;
-      };
+      tree = fold t (b ∷ bs);
+      shows = more_shown x (b ∷ bs) x.confirmed t e (ap bodies_in n) (calls.edited_in x t m (b ∷ bs) None) n refl refl;
+      back = ap (λ z. fold (fold t (b ∷ bs)) (open_back z ++ back_of i (entries (History.note (calls.changes_back t (b ∷ bs)) x.history)))) n
+          ∙ ap (fold (fold t (b ∷ bs))) g.back
+          ∙ front_back t s (b ∷ bs) (calls.entry_bodies (calls.changes_back t (b ∷ bs))) (back_of k (entries x.history)) (back_is t (b ∷ bs)) r f;
+      some = g.some;
+      few = g.few;
+      begun = g.begun;
     }
 
-edit_leads : (s : Nodes) (k : ℕ) (x : Account) (e : Edit) (out : calls.Done) → LeadsBack s k x → k < 50
-    → ((t : Nodes) (m : Made) → shown x ≡ Some t → make t (clocks x) e ≡ Ok m → Reverses t (bodies_of m.ops)) → calls.edit x e ≡ Ok out → Leads s k out.account
+edit_leads : (s : Nodes) (k : ℕ) (x : Account) (e : Edit) (out : calls.Done) → LeadsBack s k x → edit_count x k out ≤ 50
+    → ((t : Nodes) (m : Made) → shown x ≡ Some t → make t (clocks x) e ≡ Ok m → Reverses t (bodies_of m.ops)) → calls.edit x e ≡ Ok out → LeadsBack s (edit_count x k out) out.account
 edit_leads s k x e out h l r p =
     let a = edit_as x e (shown x) out p in
     let same : h.tree ≡ a.tree = some_is _ _ (sym h.shows ∙ a.shows) in
-    subst (λ (d : calls.Done). Leads s k d.account) a.is
-    (edited_leads s a.tree k x a.made (bodies_of a.made.ops) x.batch refl a.shows (subst (λ t. fold t (open_back x.batch ++ back_of k (entries x.history)) ≡ s) same h.back) (held_of s k x h) l (r a.tree a.made a.shows a.makes))
+    let bare : calls.tree_or_bare (shown x) ≡ a.tree = ap calls.tree_or_bare a.shows in
+    let made : calls.Done = calls.edited x a.tree a.made in
+    let counted : edit_count x k out ≡ noted_count (noted_of a.tree made.issues) x.history k =
+    ap (λ (d : calls.Done). edit_count x k d) (sym a.is) ∙ ap (λ t. noted_count (noted_of t made.issues) x.history k) bare in
+    let leads : LeadsBack s (noted_count (noted_of a.tree made.issues) x.history k) made.account =
+    edited_leads s a.tree k x a.made (bodies_of a.made.ops) x.batch refl a.shows (subst (λ t. fold t (open_back x.batch ++ back_of k (entries x.history)) ≡ s) same h.back) (held_of s k x h) (subst (λ n. n ≤ 50) counted l) (r a.tree a.made a.shows a.makes) in
+    subst (λ n. LeadsBack s n out.account) (sym counted) (subst (λ (d : calls.Done). LeadsBack s (noted_count (noted_of a.tree made.issues) x.history k) d.account) a.is leads)
 
 -- a batch
 
@@ -251,21 +236,18 @@ begin_leads s k x y None n h p = subst (LeadsBack s k) (ok_is _ _ p) (record {
   begun = h.begun;
 })
 
-end_leads : (s : Nodes) (k : ℕ) (x : Account) (out : calls.Done) (o : Option OpenBatch) → x.batch ≡ o → LeadsBack s k x → k < 50 → calls.end_at x o ≡ Ok out → Leads s k out.account
+end_leads : (s : Nodes) (k : ℕ) (x : Account) (out : calls.Done) (o : Option OpenBatch) → x.batch ≡ o → LeadsBack s k x → noted_count (changes_in o) x.history k ≤ 50 → calls.end_at x o ≡ Ok out
+    → LeadsBack s (noted_count (changes_in o) x.history k) out.account
 end_leads s k x out None n h l p = cc
 end_leads s k x out (Some o) n h l p =
     let g = note_held k o.changes x.history l (held_of s k x h) in
-    subst (λ (d : calls.Done). Leads s k d.account) (ok_is (calls.closed x o) out p) (record {
-      count = g.count;
-      grown = g.grown;
-      leads = record {
-        tree = h.tree;
-        shows = shown_same x (calls.closed x o).account x.confirmed (append-nil (all_bodies (x.sent ++ (x.fresh ++ calls.issues_of x o.bodies))) ∙ issued_more x o.bodies ∙ ap (λ z. all_bodies (issued x) ++ bodies_in z) (sym n)) ∙ h.shows;
-        back = ap (fold h.tree) g.held.back ∙ ap (λ z. fold h.tree (open_back z ++ back_of k (entries x.history))) (sym n) ∙ h.back;
-        some = g.held.some;
-        few = g.held.few;
-        begun = g.held.begun;
-      };
+    subst (λ (d : calls.Done). LeadsBack s (noted_count o.changes x.history k) d.account) (ok_is (calls.closed x o) out p) (record {
+      tree = h.tree;
+      shows = shown_same x (calls.closed x o).account x.confirmed (append-nil (all_bodies (x.sent ++ (x.fresh ++ calls.issues_of x o.bodies))) ∙ issued_more x o.bodies ∙ ap (λ z. all_bodies (issued x) ++ bodies_in z) (sym n)) ∙ h.shows;
+      back = ap (fold h.tree) g.back ∙ ap (λ z. fold h.tree (open_back z ++ back_of k (entries x.history))) (sym n) ∙ h.back;
+      some = g.some;
+      few = g.few;
+      begun = g.begun;
     })
 
 -- the history alone
@@ -303,7 +285,7 @@ undo_leads s k x out h p =
 
 -- redoing
 
-reversal_is : (t : Nodes) (me : List (List ℕ × Value)) (cs : List Change) → calls.entry_bodies (calls.entry_reversal t me cs) ≡ reverse_all t (calls.entry_bodies cs)
+pub reversal_is : (t : Nodes) (me : List (List ℕ × Value)) (cs : List Change) → calls.entry_bodies (calls.entry_reversal t me cs) ≡ reverse_all t (calls.entry_bodies cs)
 reversal_is t me [] = refl
 reversal_is t me (OpChange b ∷ cs) = entry-append (calls.entry_reversal (step t b) me cs) (map calls.op_change (reverse t b))
     ∙ ap (λ z. z ++ calls.entry_bodies (map calls.op_change (reverse t b))) (reversal_is (step t b) me cs)
@@ -331,66 +313,54 @@ put_held k rev u r q (Some (c ∷ cs)) l h = record {
   begun = λ e. refl;
 }
 
-redo_leads : (s : Nodes) (k : ℕ) (x : Account) (out : calls.Done) → LeadsBack s k x → k < 50
-    → ((t : Nodes) (e : List Change) → shown x ≡ Some t → History.redo_entry x.history ≡ Some e → Reverses t (calls.entry_bodies e)) → calls.go_back calls.Redo x ≡ Ok (Some out) → Leads s k out.account
+redo_leads : (s : Nodes) (k : ℕ) (x : Account) (out : calls.Done) → LeadsBack s k x → suc k ≤ 50
+    → ((t : Nodes) (e : List Change) → shown x ≡ Some t → History.redo_entry x.history ≡ Some e → Reverses t (calls.entry_bodies e)) → calls.go_back calls.Redo x ≡ Ok (Some out) → LeadsBack s (suc k) out.account
 redo_leads s k x out h l r p =
     let a = back_as calls.Redo x x.batch out refl p in
     let rev = calls.entry_reversal (calls.tree_or_bare (shown x)) x.me a.entry in
-    let g = put_held k rev x.history.undo x.history.redo (drop 1 (History.resume x.history).redo) x.history.bag l (held_of s k x h) in
+    let g = put_held k rev x.history.undo x.history.redo (drop 1 (History.resume x.history).redo) x.history.bag (omega (arith, l)) (held_of s k x h) in
     let y : Account = (calls.went_back calls.Redo x a.entry).account in
     let is : calls.entry_bodies rev ≡ reverse_all h.tree (calls.entry_bodies a.entry) = reversal_is (calls.tree_or_bare (shown x)) x.me a.entry ∙ ap (λ z. reverse_all (calls.tree_or_bare z) (calls.entry_bodies a.entry)) h.shows in
-    subst (λ (d : calls.Done). Leads s k d.account) a.is (record {
-      count = suc k;
-      grown = omega arith;
-      leads = record {
-        tree = fold h.tree (calls.entry_bodies a.entry);
-        shows = more_shown x (calls.entry_bodies a.entry) x.confirmed h.tree h.shows (ap bodies_in a.none) y a.none refl refl;
-        back = ap (λ z. fold (fold h.tree (calls.entry_bodies a.entry)) (open_back z ++ back_of (suc k) (entries (History.redone rev x.history)))) a.none
-            ∙ ap (fold (fold h.tree (calls.entry_bodies a.entry))) g.back
-            ∙ front_back h.tree s (calls.entry_bodies a.entry) (calls.entry_bodies rev) (back_of k (entries x.history)) is (r h.tree a.entry h.shows a.is_entry)
-            (ap (λ z. fold h.tree (open_back z ++ back_of k (entries x.history))) (sym a.none) ∙ h.back);
-        some = g.some;
-        few = g.few;
-        begun = g.begun;
-      };
+    subst (λ (d : calls.Done). LeadsBack s (suc k) d.account) a.is (record {
+      tree = fold h.tree (calls.entry_bodies a.entry);
+      shows = more_shown x (calls.entry_bodies a.entry) x.confirmed h.tree h.shows (ap bodies_in a.none) y a.none refl refl;
+      back = ap (λ z. fold (fold h.tree (calls.entry_bodies a.entry)) (open_back z ++ back_of (suc k) (entries (History.redone rev x.history)))) a.none
+          ∙ ap (fold (fold h.tree (calls.entry_bodies a.entry))) g.back
+          ∙ front_back h.tree s (calls.entry_bodies a.entry) (calls.entry_bodies rev) (back_of k (entries x.history)) is (r h.tree a.entry h.shows a.is_entry)
+          (ap (λ z. fold h.tree (open_back z ++ back_of k (entries x.history))) (sym a.none) ∙ h.back);
+      some = g.some;
+      few = g.few;
+      begun = g.begun;
     })
 
 -- presence
 
-patched_leads : (s : Nodes) (k : ℕ) (x : Account) (patch : List (List ℕ × Value)) (back : List Change) (o : Option OpenBatch) → calls.entry_bodies back ≡ [] → x.batch ≡ o → LeadsBack s k x → k < 50
-    → Leads s k (record x { me = merged x.me patch; unsent = with_names x.unsent patch; batch = calls.open_patched back patch o; history = calls.noted_alone back x.history o })
+patched_leads : (s : Nodes) (k : ℕ) (x : Account) (patch : List (List ℕ × Value)) (back : List Change) (o : Option OpenBatch) → calls.entry_bodies back ≡ [] → x.batch ≡ o → LeadsBack s k x → patch_count o back x.history k ≤ 50
+    → LeadsBack s (patch_count o back x.history k) (record x { me = merged x.me patch; unsent = with_names x.unsent patch; batch = calls.open_patched back patch o; history = calls.noted_alone back x.history o })
 patched_leads s k x patch back (Some o) e n h l = record {
-  count = k;
-  grown = omega arith;
-  leads = record {
-    tree = h.tree;
-    shows = shown_same x (record x { batch = calls.open_patched back patch (Some o) }) x.confirmed (ap (λ z. all_bodies (issued x) ++ bodies_in z) (sym n)) ∙ h.shows;
-    back = ap (λ z. fold h.tree (z ++ back_of k (entries x.history))) (entry-append back o.changes ∙ ap (λ z. z ++ calls.entry_bodies o.changes) e)
-        ∙ ap (λ z. fold h.tree (open_back z ++ back_of k (entries x.history))) (sym n) ∙ h.back;
-    some = h.some;
-    few = h.few;
-    begun = h.begun;
-  };
+  tree = h.tree;
+  shows = shown_same x (record x { batch = calls.open_patched back patch (Some o) }) x.confirmed (ap (λ z. all_bodies (issued x) ++ bodies_in z) (sym n)) ∙ h.shows;
+  back = ap (λ z. fold h.tree (z ++ back_of k (entries x.history))) (entry-append back o.changes ∙ ap (λ z. z ++ calls.entry_bodies o.changes) e)
+      ∙ ap (λ z. fold h.tree (open_back z ++ back_of k (entries x.history))) (sym n) ∙ h.back;
+  some = h.some;
+  few = h.few;
+  begun = h.begun;
 }
 patched_leads s k x patch back None e n h l =
     let g = note_held k back x.history l (held_of s k x h) in
     record {
-      count = g.count;
-      grown = g.grown;
-      leads = record {
-        tree = h.tree;
-        shows = shown_same x (record x { batch = None }) x.confirmed (ap (λ z. all_bodies (issued x) ++ bodies_in z) (sym n)) ∙ h.shows;
-        back = ap (fold h.tree) (g.held.back ∙ ap (λ z. z ++ back_of k (entries x.history)) e) ∙ ap (λ z. fold h.tree (open_back z ++ back_of k (entries x.history))) (sym n) ∙ h.back;
-        some = g.held.some;
-        few = g.held.few;
-        begun = g.held.begun;
-      };
+      tree = h.tree;
+      shows = shown_same x (record x { batch = None }) x.confirmed (ap (λ z. all_bodies (issued x) ++ bodies_in z) (sym n)) ∙ h.shows;
+      back = ap (fold h.tree) (g.back ∙ ap (λ z. z ++ back_of k (entries x.history)) e) ∙ ap (λ z. fold h.tree (open_back z ++ back_of k (entries x.history))) (sym n) ∙ h.back;
+      some = g.some;
+      few = g.few;
+      begun = g.begun;
     }
 
-presence_leads : (s : Nodes) (k : ℕ) (x y : Account) (patch : List (List ℕ × Value)) (in_history : Bool) (b : Bool) (fault : calls.SayFault) (size : ℕ) → LeadsBack s k x → k < 50
-    → cond b (Err fault) (calls.presence_sized x patch in_history size) ≡ Ok y → Leads s k y
+presence_leads : (s : Nodes) (k : ℕ) (x y : Account) (patch : List (List ℕ × Value)) (in_history : Bool) (b : Bool) (fault : calls.SayFault) (size : ℕ) → LeadsBack s k x → presence_count x k patch in_history ≤ 50
+    → cond b (Err fault) (calls.presence_sized x patch in_history size) ≡ Ok y → LeadsBack s (presence_count x k patch in_history) y
 presence_leads s k x y patch in_history true fault size h l p = cc
-presence_leads s k x y patch in_history false fault size h l p = subst (Leads s k) (under (nat_lt _ size) _ (calls.patched_me x patch (calls.back_noted x patch in_history)) y p)
+presence_leads s k x y patch in_history false fault size h l p = subst (LeadsBack s (presence_count x k patch in_history)) (under (nat_lt _ size) _ (calls.patched_me x patch (calls.back_noted x patch in_history)) y p)
     (patched_leads s k x patch (calls.back_noted x patch in_history) x.batch (no_bodies x patch in_history) refl h l)
 
 still_closed : (x : Account) (out : calls.Done) → calls.go_back calls.Undo x ≡ Ok (Some out) → out.account.batch ≡ None
@@ -400,9 +370,13 @@ restores : (s : Nodes) (k : ℕ) (x y : Account) → LeadsBack s k x → x.batch
 restores s zero x y h n u = ap shown (sym u) ∙ h.shows ∙ ap Some (ap (λ z. fold h.tree (open_back z ++ [])) (sym n) ∙ h.back)
 restores s (suc k) x y h n u = restores s k u.out.account y (undo_leads s k x u.out h u.undoes) (still_closed x u.out u.undoes) u.more
 
+open_is : (o : Option OpenBatch) → open_back o ≡ calls.entry_bodies (changes_in o)
+open_is None = refl
+open_is (Some o) = refl
+
 pub undoes_alone : UndoesAlone
 undoes_alone = record {
-  begins = λ s x e n b. record { tree = s; shows = e; back = ap (λ z. fold s (open_back z ++ [])) n; some = omega arith; few = omega arith; begun = λ i. b };
+  begins = λ s x e n m b. record { tree = s; shows = e; back = ap (fold s) (append-nil (open_back x.batch) ∙ open_is x.batch ∙ m); some = omega arith; few = omega arith; begun = λ i. b };
   edit = edit_leads;
   batch_begin = λ s k x y h p. begin_leads s k x y x.batch refl h p;
   batch_end = λ s k x out h l p. end_leads s k x out x.batch refl h l p;

@@ -1,5 +1,5 @@
 -- Each call of a client keeps the invariant.
-use Rattle.std.proofs.Common.{◌≡◌, ℕ, inl, List, [], ◌∷◌, refl, ◌∙◌}
+use Rattle.std.proofs.Common.{◌≡◌, ℕ, inl, List, [], ◌∷◌, refl}
 use Rattle.std.specs.Prelude.{Option, Some, None, Result, Ok, Err}
 use Rattle.room_log.specs.Log.{State}
 use Rattle.room_model.specs.Edits.{Edit, EditFault}

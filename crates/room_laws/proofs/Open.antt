@@ -52,7 +52,7 @@ shown_at x (Some c) t e = ap Some (fold-append c (all_bodies (issued x)) (bodies
 pub shown_is : (t : Nodes) (x : Account) → base x ≡ Some t → shown x ≡ Some (fold t (bodies_in x.batch))
 shown_is t x e = shown_at x x.confirmed t e
 
-base_at : (x : Account) (c : Option Nodes) (t : Nodes) → bodies_in x.batch ≡ [] → shown_over x c ≡ Some t → base_over x c ≡ Some t
+pub base_at : (x : Account) (c : Option Nodes) (t : Nodes) → bodies_in x.batch ≡ [] → shown_over x c ≡ Some t → base_over x c ≡ Some t
 base_at x None t e f = cc
 base_at x (Some c) t e f = ap (λ bs. Some (fold c bs)) (sym (append-nil (all_bodies (issued x))) ∙ ap (λ bs. all_bodies (issued x) ++ bs) (sym e)) ∙ f
 
@@ -163,19 +163,19 @@ event_on : (x y : Account) (e : Json) (b : Bool) (fault : calls.SayFault) (size 
 event_on x y e true fault size p = cc
 event_on x y e false fault size p = subst (Same x) (under (nat_lt _ size) _ (record x { events = x.events ++ e ∷ [] }) y p) (record { confirmed = refl; issued = refl; batch = refl })
 
-event_at : (x y : Account) (e : Json) (b c : Bool) (f g : calls.SayFault) (size : ℕ) → cond b (Err f) (cond c (Err g) (calls.event_sized x e size)) ≡ Ok y → Same x y
+pub event_at : (x y : Account) (e : Json) (b c : Bool) (f g : calls.SayFault) (size : ℕ) → cond b (Err f) (cond c (Err g) (calls.event_sized x e size)) ≡ Ok y → Same x y
 event_at x y e true c f g size p = cc
 event_at x y e false c f g size p = event_on x y e c g size p
 
 -- sending
 
-flushed_same : (x : Account) (g : Stage) → x.stage ≡ g → Same x (calls.flushed x)
+pub flushed_same : (x : Account) (g : Stage) → x.stage ≡ g → Same x (calls.flushed x)
 flushed_same x Idle e = rw e (record { confirmed = refl; issued = refl; batch = refl })
 flushed_same x Dialled e = rw e (record { confirmed = refl; issued = refl; batch = refl })
 flushed_same x Connected e = rw e (record { confirmed = refl; issued = refl; batch = refl })
 flushed_same x Synced e = rw e (record { confirmed = refl; issued = append-nil (issued x); batch = refl })
 
-resent_same : (x : Account) (g : Stage) → x.stage ≡ g → Same x (calls.resent x)
+pub resent_same : (x : Account) (g : Stage) → x.stage ≡ g → Same x (calls.resent x)
 resent_same x Idle e = rw e (record { confirmed = refl; issued = refl; batch = refl })
 resent_same x Dialled e = rw e (record { confirmed = refl; issued = refl; batch = refl })
 resent_same x Connected e = rw e (record { confirmed = refl; issued = refl; batch = refl })
@@ -211,26 +211,26 @@ receive_same x (server.Update seq os) out b p = cc
 
 -- undoing
 
-back_presence : (way : calls.Direction) (x : Account) (e : List Change) (b : Batch) (size : ℕ) (out : calls.Done) → calls.back_presence way x e size ≡ Ok (Some out) → out.issues ≡ b ∷ [] → b.bodies ≡ calls.entry_bodies e
-back_presence way x e b size out p i =
-    let q = some_is (calls.went_back way x e) out (under (nat_lt _ size) _ (Some (calls.went_back way x e)) (Some out) p) in
+back_presence : (direction : calls.Direction) (x : Account) (e : List Change) (b : Batch) (size : ℕ) (out : calls.Done) → calls.back_presence direction x e size ≡ Ok (Some out) → out.issues ≡ b ∷ [] → b.bodies ≡ calls.entry_bodies e
+back_presence direction x e b size out p i =
+    let q = some_is (calls.went_back direction x e) out (under (nat_lt _ size) _ (Some (calls.went_back direction x e)) (Some out) p) in
     issued_bodies x (calls.entry_bodies e) b (ap (λ (d : calls.Done). d.issues) q ∙ i)
 
-back_sized : (way : calls.Direction) (x : Account) (e : List Change) (b : Batch) (c : Bool) (fault : calls.UndoFault) (size : ℕ) (out : calls.Done) → cond c (Err fault) (calls.back_presence way x e size) ≡ Ok (Some out) → out.issues ≡ b ∷ [] → b.bodies ≡ calls.entry_bodies e
-back_sized way x e b true fault size out p i = cc
-back_sized way x e b false fault size out p i = back_presence way x e b size out p i
+back_sized : (direction : calls.Direction) (x : Account) (e : List Change) (b : Batch) (c : Bool) (fault : calls.UndoFault) (size : ℕ) (out : calls.Done) → cond c (Err fault) (calls.back_presence direction x e size) ≡ Ok (Some out) → out.issues ≡ b ∷ [] → b.bodies ≡ calls.entry_bodies e
+back_sized direction x e b true fault size out p i = cc
+back_sized direction x e b false fault size out p i = back_presence direction x e b size out p i
 
-back_clocked : (way : calls.Direction) (x : Account) (e : List Change) (b : Batch) (o : Option ℕ) (out : calls.Done) → calls.back_clocked way x e (calls.entry_bodies e) o ≡ Ok (Some out) → out.issues ≡ b ∷ [] → b.bodies ≡ calls.entry_bodies e
-back_clocked way x e b (Some n) out p i = cc
-back_clocked way x e b None out p i = back_sized way x e b (is_some_list (calls.entry_bodies e) && nat_lt _ _) _ (calls.presence_size (calls.entry_presence x.me e)) out p i
+back_clocked : (direction : calls.Direction) (x : Account) (e : List Change) (b : Batch) (o : Option ℕ) (out : calls.Done) → calls.back_clocked direction x e (calls.entry_bodies e) o ≡ Ok (Some out) → out.issues ≡ b ∷ [] → b.bodies ≡ calls.entry_bodies e
+back_clocked direction x e b (Some n) out p i = cc
+back_clocked direction x e b None out p i = back_sized direction x e b (is_some_list (calls.entry_bodies e) && nat_lt _ _) _ (calls.presence_size (calls.entry_presence x.me e)) out p i
 
-back_entry : (way : calls.Direction) (x : Account) (e : List Change) (b : Batch) (o : Option (List Change)) (out : calls.Done) → o ≡ Some e → calls.back_entry way x o ≡ Ok (Some out) → out.issues ≡ b ∷ [] → b.bodies ≡ calls.entry_bodies e
-back_entry way x e b None out f p i = cc
-back_entry way x e b (Some d) out f p i = back_clocked way x d b _ out p i ∙ ap calls.entry_bodies (some_is d e f)
+back_entry : (direction : calls.Direction) (x : Account) (e : List Change) (b : Batch) (o : Option (List Change)) (out : calls.Done) → o ≡ Some e → calls.back_entry direction x o ≡ Ok (Some out) → out.issues ≡ b ∷ [] → b.bodies ≡ calls.entry_bodies e
+back_entry direction x e b None out f p i = cc
+back_entry direction x e b (Some d) out f p i = back_clocked direction x d b _ out p i ∙ ap calls.entry_bodies (some_is d e f)
 
-back_at : (way : calls.Direction) (x : Account) (e : List Change) (b : Batch) (o : Option OpenBatch) (out : calls.Done) → calls.entry_of way x.history ≡ Some e → calls.back_at way x o ≡ Ok (Some out) → out.issues ≡ b ∷ [] → b.bodies ≡ calls.entry_bodies e
-back_at way x e b (Some o) out f p i = cc
-back_at way x e b None out f p i = back_entry way x e b (calls.entry_of way x.history) out f p i
+back_at : (direction : calls.Direction) (x : Account) (e : List Change) (b : Batch) (o : Option OpenBatch) (out : calls.Done) → calls.entry_of direction x.history ≡ Some e → calls.back_at direction x o ≡ Ok (Some out) → out.issues ≡ b ∷ [] → b.bodies ≡ calls.entry_bodies e
+back_at direction x e b (Some o) out f p i = cc
+back_at direction x e b None out f p i = back_entry direction x e b (calls.entry_of direction x.history) out f p i
 
 pub keeps_open : KeepsOpen
 keeps_open = record {
@@ -248,5 +248,5 @@ keeps_open = record {
   receive = λ t x m out b h p. open_same t x out.account (receive_same x m out b p) h;
   batch_end = λ t x b out h p i. end_notes t x b out x.batch h.back p i;
   alone = edit_notes;
-  go_back = λ way x e b out f p i. back_at way x e b x.batch out f p i;
+  go_back = λ direction x e b out f p i. back_at direction x e b x.batch out f p i;
 }

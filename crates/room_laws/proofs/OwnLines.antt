@@ -7,16 +7,16 @@ use Rattle.std.specs.FinMap.{FinMap, get}
 use Rattle.std.specs.Ordering.{nat_cmp}
 use Rattle.room_msg.specs.declared.messages.Resume.{Resume}
 use Rattle.room_msg.specs.declared.messages.ClientMsg.{ClientMsg}
-use Rattle.room_log.specs.Log.{State, Update, last_of, updates_of}
+use Rattle.room_log.specs.Log.{State, last_of, updates_of}
 use Rattle.room_model.specs.Notices
 use Rattle.room_model.specs.Run
-use Rattle.room_model.specs.Account.{Account, Batch, Stage, Idle, Dialled, Connected, Synced, actor_in, frame_of}
+use Rattle.room_model.specs.Account.{Account, Stage, Idle, Dialled, Connected, Synced, actor_in, frame_of}
 use Rattle.room_model.specs.Calls as calls
 use Rattle.room_model.specs.Server.{Inbound}
 use Rattle.room_model.specs.World
 use Rattle.room_model.specs.World.{slot, slot_in, account}
 use Rattle.room_model.specs.Run.{Run, with_step, all_given, IsUndisturbed}
-use Rattle.room_laws.specs.Core.{Core, core, actor, issued}
+use Rattle.room_laws.specs.Core.{Core, core, actor}
 use Rattle.room_laws.specs.Queues.{IsOn}
 use Rattle.room_laws.specs.Invariant
 use Rattle.room_laws.proofs.Maps.{cut, cut_here, cut_else, cut_there, conn_same, conn_other, get_same, get_other}

@@ -1,43 +1,26 @@
--- What every line keeps of one client's account.
-use Rattle.std.proofs.Common.{◌≡◌, ℕ, ◌+◌, Bool, true, false, cond, List, [], ◌∷◌, map, refl, sym, ap, ◌∙◌, subst, ⊎_elim}
+-- What every line makes of one client's account.
+use Rattle.std.proofs.Common.{◌≡◌, ℕ, zero, suc, ◌+◌, Bool, true, false, cond, List, [], ◌∷◌, ◌++◌, map, refl, sym, ap, ◌∙◌, subst, ⊎_elim}
 use Rattle.std.specs.Prelude.{Option, Some, None, Result, Ok, Err}
-use Rattle.std.proofs.lemmas.Bool.{cases_eq}
-use Rattle.std.specs.FinMap.{FinMap, get}
+use Rattle.std.proofs.lemmas.Bool.{cases_eq, eq-eqb, ne_eqb}
+use Rattle.std.specs.FinMap.{FinMap, get, entries}
 use Rattle.std.specs.Ordering.{nat_cmp}
-use Rattle.room_json.specs.Value.{Value}
-use Rattle.room_json.specs.declared.tree.Json.{Json}
 use Rattle.room_msg.specs.declared.messages.ServerMsg.{ServerMsg}
 use Rattle.room_msg.specs.declared.messages.ClientMsg.{ClientMsg}
 use Rattle.room_log.specs.Log.{State}
 use Rattle.room_model.specs.Account.{Account}
-use Rattle.room_model.specs.Edits.{Edit, EditFault}
+use Rattle.room_model.specs.Edits.{EditFault}
 use Rattle.room_model.specs.Calls as calls
 use Rattle.room_model.specs.Receive
 use Rattle.room_model.specs.Server
 use Rattle.room_model.specs.Server.{Outbound, Pong, Message, Closed, Inbound, Served}
 use Rattle.room_model.specs.Lines as lines
 use Rattle.room_model.specs.World
-use Rattle.room_model.specs.World.{World, Conn, Slot, Host, Running, Stopped, slot_in, slot, account}
-use Rattle.room_model.specs.Run.{Run, line, run}
-use Rattle.room_laws.specs.Open.{brings_none}
-use Rattle.room_laws.specs.Lines.{ReceivesQuietly, EndsNone, IsQuietOn, IsQuiet, AreQuiet}
+use Rattle.room_model.specs.World.{World, Conn, Slot, Host, Running, Stopped, slot, slot_in, account}
+use Rattle.room_model.specs.Run.{line}
+use Rattle.room_laws.specs.Events.{Event, Called, Arrived, Ended, done_or, account_or, back_or, received_or, happened, happen, if_own, arrives_as, owned_events, outbound_events, traffic_events, moved_events, line_events, events, FollowsEvents}
+use Rattle.room_laws.specs.Moves.{move, where_some}
 use Rattle.room_laws.proofs.Calls.{slot_same, slot_other}
 use Rattle.room_laws.proofs.Single.{receive_one}
-
-pub record Keeps (P : Account → Type 0) : Type 0 where
-  pub edit : (x : Account) (e : Edit) (out : calls.Done) → P x → calls.edit x e ≡ Ok out → P out.account
-  pub begin : (x y : Account) → P x → calls.batch_begin x ≡ Ok y → P y
-  pub back : (way : calls.Direction) (x : Account) (out : calls.Done) → P x → calls.go_back way x ≡ Ok (Some out) → P out.account
-  pub paused : (x : Account) → P x → P (calls.pause x)
-  pub resumed : (x : Account) → P x → P (calls.resume x)
-  pub cleared : (x : Account) → P x → P (calls.clear x)
-  pub presence : (x y : Account) (patch : List (List ℕ × Value)) (in_history : Bool) → P x → calls.presence x patch in_history ≡ Ok y → P y
-  pub event : (x y : Account) (e : Json) → P x → calls.event x e ≡ Ok y → P y
-  pub flushed : (x : Account) → P x → P (calls.flushed x)
-  pub resent : (x : Account) → P x → P (calls.resent x)
-  pub lost : (x : Account) → P x → P (calls.lost x)
-  pub dialled : (x : Account) → P x → P (calls.dialled x)
-  pub receive : (x : Account) (m : ServerMsg) (out : Receive.Received) → brings_none m ≡ true → P x → Receive.receive x m ≡ Ok out → P out.account
 
 send_clients : (w : World) (k : ℕ) (us : List Inbound) (b : Bool) (o : Option Conn) → (World.inbounds_on w k us b o).clients ≡ w.clients
 send_clients w k us true (Some q) = refl
@@ -104,146 +87,193 @@ raw_clients : (w : World) (k : ℕ) (text : List ℕ) (o : Option Conn) → (Wor
 raw_clients w k text None = refl
 raw_clients w k text (Some q) = raw_on_clients w k text q.owner
 
-module _ (P : Account → Type 0) (keep : Keeps P) (c : ℕ) where
-  abbrev On : World → Type 0
-  On w = P (account w c)
+pub happen-append : (x : Account) (es fs : List Event) → happen x (es ++ fs) ≡ happen (happen x es) fs
+happen-append x [] fs = refl
+happen-append x (e ∷ es) fs = happen-append (happened x e) es fs
 
-  same : (v w : World) → v.clients ≡ w.clients → On w → On v
-  same v w e h = subst P (ap (λ (m : FinMap nat_cmp Slot). (slot_in (get m c)).account) (sym e)) h
+module _ (c : ℕ) where
+  same : (v w : World) → v.clients ≡ w.clients → account v c ≡ account w c
+  same v w e = ap (λ (m : FinMap nat_cmp Slot). (slot_in (get m c)).account) e
 
-  slots : (w : World) (d : ℕ) (q : Slot) → On w → (d ≡ c → P q.account) → On (World.with_slot w d q)
-  slots w d q h f = ⊎_elim
-      (λ e. subst (λ n. P (account (World.with_slot w n q) c)) e (subst P (ap (λ (z : Slot). z.account) (sym (slot_same w c q))) (f (sym e))))
-      (λ e. subst P (ap (λ (z : Slot). z.account) (sym (slot_other w d c q e))) h)
-      (cases_eq c d)
+  -- what happens to another client, or to this one
+  own : (w v : World) (d : ℕ) (es : List Event) → (d ≡ c → account v c ≡ happen (account w c) es) → ((d ≡ c → ⊥) → account v c ≡ account w c) → account v c ≡ happen (account w c) (if_own c d es)
+  own w v d es f g = ⊎_elim
+      (λ e. f e ∙ ap (λ b. happen (account w c) (cond b es [])) (sym (eq-eqb d c e)))
+      (λ e. g e ∙ ap (λ b. happen (account w c) (cond b es [])) (sym (ne_eqb d c e)))
+      (cases_eq d c)
 
-  module _ (w : World) (number d : ℕ) (p : Slot) (h : On w) (hp : d ≡ c → P p.account) where
-    put : (y : Account) (o : Option ℕ) (ns : List _) → (d ≡ c → P y) → On (World.with_slot w d (record { account = y; present = o; noticed = ns }))
-    put y o ns f = slots w d (record { account = y; present = o; noticed = ns }) h f
+  -- the client d comes to have this slot
+  put : (w u : World) (d : ℕ) (q : Slot) (es : List Event) → u.clients ≡ w.clients → q.account ≡ happen (account w d) es → account (World.with_slot u d q) c ≡ happen (account w c) (if_own c d es)
+  put w u d q es i e = own w (World.with_slot u d q) d es
+      (λ j. subst (λ n. account (World.with_slot u d q) n ≡ happen (account w n) es) j (ap (λ (z : Slot). z.account) (slot_same u d q) ∙ e))
+      (λ j. ap (λ (z : Slot). z.account) (slot_other u d c q (λ k. j (sym k))) ∙ same u w i)
 
-    edits : (e : Edit) (r : Result calls.Done EditFault) → calls.edit p.account e ≡ r → On (World.edit_out w number d p r).world
-    edits e (Err fault) i = h
-    edits e (Ok out) i = put out.account p.present out.notices (λ j. keep.edit p.account e out (hp j) i)
+  -- with that client left as it was
+  kept : (w v : World) (d : ℕ) (es : List Event) → v.clients ≡ w.clients → account w d ≡ happen (account w d) es → account v c ≡ happen (account w c) (if_own c d es)
+  kept w v d es i e = own w v d es (λ j. same v w i ∙ subst (λ n. account w n ≡ happen (account w n) es) j e) (λ j. same v w i)
 
-    begins : (r : Result Account calls.BatchFault) → calls.batch_begin p.account ≡ r → On (World.begin_out w number d p r).world
-    begins (Err fault) i = h
-    begins (Ok y) i = put y p.present p.noticed (λ j. keep.begin p.account y (hp j) i)
+  -- and frames sent after it
+  put_sent : (w u v : World) (d : ℕ) (q : Slot) (es : List Event) → v.clients ≡ (World.with_slot u d q).clients → u.clients ≡ w.clients → q.account ≡ happen (account w d) es → account v c ≡ happen (account w c) (if_own c d es)
+  put_sent w u v d q es s i e = same v (World.with_slot u d q) s ∙ put w u d q es i e
 
-    ends : (r : Result calls.Done calls.BatchFault) → (d ≡ c → ⊥) → On (World.end_out w number d p r).world
-    ends (Err fault) i = h
-    ends (Ok out) i = put out.account p.present p.noticed (λ j. absurd (i j))
+  module _ (w : World) (number d : ℕ) where
+    abbrev p : Slot
+    p = slot w d
 
-    backs : (way : calls.Direction) (r : Result (Option calls.Done) calls.UndoFault) → calls.go_back way p.account ≡ r → On (World.back_out w number d p r).world
-    backs way (Err fault) i = h
-    backs way (Ok None) i = h
-    backs way (Ok (Some out)) i = put out.account p.present out.notices (λ j. keep.back way p.account out (hp j) i)
+    abbrev After : World → lines.Call → Type 0
+    After v call = account v c ≡ happen (account w c) (if_own c d (Called call ∷ []))
 
-    says : (r : Result Account calls.SayFault) → ((y : Account) → r ≡ Ok y → d ≡ c → P y) → On (World.say_out w number d p r).world
-    says (Err fault) f = h
-    says (Ok y) f = put y p.present p.noticed (λ j. f y refl j)
+    edits : (e : _) (r : Result calls.Done EditFault) → calls.edit p.account e ≡ r → After (World.edit_out w number d p r).world (lines.Edits e)
+    edits e (Err fault) i = kept w w d _ refl (sym (ap (done_or p.account) i))
+    edits e (Ok out) i = put w w d _ _ refl (sym (ap (done_or p.account) i))
 
-    speaks : (y : Account) (fs : List (List ClientMsg)) → (d ≡ c → P y) → On (World.speaks w d p y fs).world
-    speaks y fs f = same (World.send_present (World.with_slot w d (World.with_account p y)) p.present fs) (World.with_slot w d (World.with_account p y)) (present_clients (World.with_slot w d (World.with_account p y)) p.present fs) (put y p.present p.noticed f)
+    begins : (r : Result Account calls.BatchFault) → calls.batch_begin p.account ≡ r → After (World.begin_out w number d p r).world lines.Begin
+    begins (Err fault) i = kept w w d _ refl (sym (ap (account_or p.account) i))
+    begins (Ok y) i = put w w d _ _ refl (sym (ap (account_or p.account) i))
 
-    cuts : (y : Account) → (d ≡ c → P y) → On (World.with_slot (World.cut_present w p.present) d (record { account = y; present = None; noticed = p.noticed }))
-    cuts y f = slots (World.cut_present w p.present) d (record { account = y; present = None; noticed = p.noticed }) (same (World.cut_present w p.present) w (cut_clients w p.present) h) f
+    ends : (r : Result calls.Done calls.BatchFault) → calls.batch_end p.account ≡ r → After (World.end_out w number d p r).world lines.End
+    ends (Err fault) i = kept w w d _ refl (sym (ap (done_or p.account) i))
+    ends (Ok out) i = put w w d _ _ refl (sym (ap (done_or p.account) i))
 
-    dials : On (World.dial_slot w d p)
+    backs : (es : List Event) (r : Result (Option calls.Done) calls.UndoFault) → back_or p.account r ≡ happen p.account es → account (World.back_out w number d p r).world c ≡ happen (account w c) (if_own c d es)
+    backs es (Err fault) i = kept w w d es refl i
+    backs es (Ok None) i = kept w w d es refl i
+    backs es (Ok (Some out)) i = put w w d _ es refl i
+
+    says : (es : List Event) (r : Result Account calls.SayFault) → account_or p.account r ≡ happen p.account es → account (World.say_out w number d p r).world c ≡ happen (account w c) (if_own c d es)
+    says es (Err fault) i = kept w w d es refl i
+    says es (Ok y) i = put w w d _ es refl i
+
+    speaks : (y : Account) (fs : List (List ClientMsg)) (es : List Event) → y ≡ happen p.account es → account (World.speaks w d p y fs).world c ≡ happen (account w c) (if_own c d es)
+    speaks y fs es i =
+        let q = World.with_account p y in
+        put_sent w w (World.send_present (World.with_slot w d q) p.present fs) d q es (present_clients (World.with_slot w d q) p.present fs) refl i
+
+    cuts : (y : Account) (es : List Event) → y ≡ happen p.account es → account (World.with_slot (World.cut_present w p.present) d (record { account = y; present = None; noticed = p.noticed })) c ≡ happen (account w c) (if_own c d es)
+    cuts y es i = put w (World.cut_present w p.present) d (record { account = y; present = None; noticed = p.noticed }) es (cut_clients w p.present) i
+
+    dials : After (World.dial_slot w d p) lines.Dial
     dials =
         let v = World.open_conn (World.cut_present w p.present) (Some d) in
         let q : Slot = record { account = calls.dialled p.account; present = Some (w.opened + 1); noticed = p.noticed } in
         let u = World.with_slot v d q in
-        same (World.dial_slot w d p) u (send_clients u (w.opened + 1) _ (World.is_attached u (w.opened + 1)) (get u.conns (w.opened + 1)))
-        (slots v d q (same v w (cut_clients w p.present) h) (λ j. keep.dialled p.account (hp j)))
+        put_sent w v (World.dial_slot w d p) d q (Called lines.Dial ∷ []) (send_clients u (w.opened + 1) _ (World.is_attached u (w.opened + 1)) (get u.conns (w.opened + 1))) (cut_clients w p.present) refl
 
-    call_on : (call : lines.Call) → (d ≡ c → EndsNone call) → On (World.client_calls w number d p call).world
-    call_on lines.Dial g = dials
-    call_on (lines.Edits f) g = edits f (calls.edit p.account f) refl
-    call_on lines.Begin g = begins (calls.batch_begin p.account) refl
-    call_on lines.End g = ends (calls.batch_end p.account) g
-    call_on lines.Undo g = backs calls.Undo (calls.go_back calls.Undo p.account) refl
-    call_on lines.Redo g = backs calls.Redo (calls.go_back calls.Redo p.account) refl
-    call_on lines.Pause g = put (calls.pause p.account) p.present p.noticed (λ j. keep.paused p.account (hp j))
-    call_on lines.Resume g = put (calls.resume p.account) p.present p.noticed (λ j. keep.resumed p.account (hp j))
-    call_on lines.Clear g = put (calls.clear p.account) p.present p.noticed (λ j. keep.cleared p.account (hp j))
-    call_on (lines.Presence patch in_history) g = says (calls.presence p.account patch in_history) (λ y i j. keep.presence p.account y patch in_history (hp j) i)
-    call_on (lines.Event f) g = says (calls.event p.account f) (λ y i j. keep.event p.account y f (hp j) i)
-    call_on lines.Flush g = speaks (calls.flushed p.account) (calls.flush_frames p.account) (λ j. keep.flushed p.account (hp j))
-    call_on lines.Resend g = speaks (calls.resent p.account) (calls.resend_frames p.account) (λ j. keep.resent p.account (hp j))
-    call_on lines.Cut g = cuts (calls.lost p.account) (λ j. keep.lost p.account (hp j))
+    call_after : (call : lines.Call) → After (World.client_calls w number d p call).world call
+    call_after lines.Dial = dials
+    call_after (lines.Edits e) = edits e (calls.edit p.account e) refl
+    call_after lines.Begin = begins (calls.batch_begin p.account) refl
+    call_after lines.End = ends (calls.batch_end p.account) refl
+    call_after lines.Undo = backs (Called lines.Undo ∷ []) (calls.go_back calls.Undo p.account) refl
+    call_after lines.Redo = backs (Called lines.Redo ∷ []) (calls.go_back calls.Redo p.account) refl
+    call_after lines.Pause = put w w d _ _ refl refl
+    call_after lines.Resume = put w w d _ _ refl refl
+    call_after lines.Clear = put w w d _ _ refl refl
+    call_after (lines.Presence patch in_history) = says (Called (lines.Presence patch in_history) ∷ []) (calls.presence p.account patch in_history) refl
+    call_after (lines.Event e) = says (Called (lines.Event e) ∷ []) (calls.event p.account e) refl
+    call_after lines.Flush = speaks (calls.flushed p.account) (calls.flush_frames p.account) (Called lines.Flush ∷ []) refl
+    call_after lines.Resend = speaks (calls.resent p.account) (calls.resend_frames p.account) (Called lines.Resend ∷ []) refl
+    call_after lines.Cut = cuts (calls.lost p.account) (Called lines.Cut ∷ []) refl
 
     -- what comes down
-    frame_on : (k : ℕ) (r : Result Receive.Received Receive.Refusal) → ((out : Receive.Received) → r ≡ Ok out → d ≡ c → P out.account) → ((out : Receive.Refusal) → r ≡ Err out → d ≡ c → P out.account) → On (World.frame_taken w number d k p r).world
-    frame_on k (Err out) f g = cuts out.account (λ j. g out refl j)
-    frame_on k (Ok out) f g =
-        let u = World.with_slot w d (record { account = out.account; present = p.present; noticed = out.notices }) in
-        same (World.send_inbound u k (map World.inbound_frame out.replies)) u (send_clients u k (map World.inbound_frame out.replies) (World.is_attached u k) (get u.conns k)) (put out.account p.present out.notices (λ j. f out refl j))
 
-    next_on : (k : ℕ) (m : ServerMsg) (r : Result Receive.Received Receive.FrameFault) → (d ≡ c → brings_none m ≡ true) → Receive.receive p.account m ≡ r → On (World.frame_taken w number d k p (Receive.or_lost p.account r)).world
-    next_on k m (Err fault) b i = cuts (calls.lost p.account) (λ j. keep.lost p.account (hp j))
-    next_on k m (Ok out) b i =
-        let u = World.with_slot w d (record { account = out.account; present = p.present; noticed = out.notices }) in
-        same (World.send_inbound u k (map World.inbound_frame out.replies)) u (send_clients u k (map World.inbound_frame out.replies) (World.is_attached u k) (get u.conns k))
-        (put out.account p.present out.notices (λ j. keep.receive p.account m out (b j) (hp j) i))
+    frame_after : (k : ℕ) (es : List Event) (r : Result Receive.Received Receive.Refusal) → ((out : Receive.Received) → r ≡ Ok out → out.account ≡ happen p.account es) → ((out : Receive.Refusal) → r ≡ Err out → out.account ≡ happen p.account es)
+        → account (World.frame_taken w number d k p r).world c ≡ happen (account w c) (if_own c d es)
+    frame_after k es (Err out) f g = cuts out.account es (g out refl)
+    frame_after k es (Ok out) f g =
+        let q : Slot = record { account = out.account; present = p.present; noticed = out.notices } in
+        let u = World.with_slot w d q in
+        put_sent w w (World.send_inbound u k (map World.inbound_frame out.replies)) d q es (send_clients u k (map World.inbound_frame out.replies) (World.is_attached u k) (get u.conns k)) refl (f out refl)
 
-    takes_on : (k : ℕ) (m : Outbound) → ((n : ServerMsg) → m ≡ Message n → d ≡ c → brings_none n ≡ true) → On (World.client_takes w number d k p m).world
-    takes_on k Pong b = frame_on k (Ok (Receive.received p.account)) (λ out i j. subst (λ (z : Receive.Received). P z.account) (ok_is _ _ i) (hp j)) (λ out i j. absurd (ok_err _ _ i))
-      where
-        ok_is : (x y : Receive.Received) → ◌≡◌ {A = Result Receive.Received Receive.Refusal} (Ok x) (Ok y) → x ≡ y
-        ok_is x y e = cc
+    next_after : (k : ℕ) (m : ServerMsg) (r : Result Receive.Received Receive.FrameFault) → Receive.receive p.account m ≡ r
+        → account (World.frame_taken w number d k p (Receive.or_lost p.account r)).world c ≡ happen (account w c) (if_own c d (Arrived m ∷ []))
+    next_after k m (Err fault) i = cuts (calls.lost p.account) (Arrived m ∷ []) (sym (ap (received_or p.account) i))
+    next_after k m (Ok out) i =
+        let q : Slot = record { account = out.account; present = p.present; noticed = out.notices } in
+        let u = World.with_slot w d q in
+        put_sent w w (World.send_inbound u k (map World.inbound_frame out.replies)) d q (Arrived m ∷ []) (send_clients u k (map World.inbound_frame out.replies) (World.is_attached u k) (get u.conns k)) refl (sym (ap (received_or p.account) i))
 
-        ok_err : (x : Receive.Received) (y : Receive.Refusal) → ◌≡◌ {A = Result Receive.Received Receive.Refusal} (Ok x) (Err y) → ⊥
-        ok_err x y e = cc
-    takes_on k (Message n) b = subst (λ r. On (World.frame_taken w number d k p r).world) (sym (receive_one p.account n)) (next_on k n (Receive.receive p.account n) (b n refl) refl)
-    takes_on k (Closed code text) b = cuts (calls.lost p.account) (λ j. keep.lost p.account (hp j))
+    takes_after : (k : ℕ) (m : Outbound) → account (World.client_takes w number d k p m).world c ≡ happen (account w c) (if_own c d (arrives_as m))
+    takes_after k Pong =
+        let q : Slot = record { account = p.account; present = p.present; noticed = [] } in
+        let u = World.with_slot w d q in
+        put_sent w w (World.send_inbound u k []) d q [] (send_clients u k [] (World.is_attached u k) (get u.conns k)) refl refl
+    takes_after k (Message n) = subst (λ r. account (World.frame_taken w number d k p r).world c ≡ happen (account w c) (if_own c d (Arrived n ∷ []))) (sym (receive_one p.account n)) (next_after k n (Receive.receive p.account n) refl)
+    takes_after k (Closed code text) = cuts (calls.lost p.account) (Ended ∷ []) refl
 
-  slot_is : (w : World) (d : ℕ) → On w → d ≡ c → P (account w d)
-  slot_is w d h j = subst (λ n. P (account w n)) (sym j) h
+  -- with the outbound queue one shorter, which no account sees
+  link_after : (w : World) (k : ℕ) (m : Outbound) → account (World.link_takes w k m).world c ≡ account w c
+  link_after w k Pong = refl
+  link_after w k (Message m) = refl
+  link_after w k (Closed code text) = refl
 
-  -- what comes down
+  owner_after : (w : World) (number k : ℕ) (m : Outbound) (ms : List Outbound) (o : Option ℕ) → account (World.owner_takes w number k m o).world c ≡ happen (account w c) (owned_events c o (m ∷ ms))
+  owner_after w number k m ms None = link_after w k m
+  owner_after w number k m ms (Some d) = takes_after w number d k m
 
-  link_on : (w : World) (k : ℕ) (m : Outbound) → On w → On (World.link_takes w k m).world
-  link_on w k Pong h = h
-  link_on w k (Message m) h = h
-  link_on w k (Closed code text) h = h
+  own_none : (w : World) (o : Option ℕ) → account w c ≡ happen (account w c) (owned_events c o [])
+  own_none w None = refl
+  own_none w (Some d) = kept w w d [] refl refl
 
-  owner_on : (w : World) (number k : ℕ) (m : Outbound) (o : Option ℕ) → On w → ((n : ServerMsg) → m ≡ Message n → o ≡ Some c → brings_none n ≡ true) → On (World.owner_takes w number k m o).world
-  owner_on w number k m None h b = link_on w k m h
-  owner_on w number k m (Some d) h b = takes_on w number d (slot w d) h (slot_is w d h) k m (λ n i j. b n i (ap Some j))
+  from_after : (w : World) (number k : ℕ) (q : Conn) (ds : List Outbound) → account (World.outbound_from w number k q ds).world c ≡ happen (account w c) (owned_events c q.owner ds)
+  from_after w number k q [] = own_none w q.owner
+  from_after w number k q (m ∷ ms) = owner_after (World.with_conn w k (record q { outbound = ms })) number k m ms q.owner
 
-  from_on : (w : World) (number k : ℕ) (q : Conn) (ds : List Outbound) → q.outbound ≡ ds → get w.conns k ≡ Some q → On w → ReceivesQuietly w c k → On (World.outbound_from w number k q ds).world
-  from_on w number k q [] i e h b = h
-  from_on w number k q (m ∷ ms) i e h b = owner_on (World.with_conn w k (record q { outbound = ms })) number k m q.owner h (λ n f o. b.quiet q n ms e o (i ∙ ap (λ z. z ∷ ms) f))
-
-  outbound_on : (w : World) (number k : ℕ) (o : Option Conn) → get w.conns k ≡ o → On w → ReceivesQuietly w c k → On (World.outbound_at w number k o).world
-  outbound_on w number k None e h b = h
-  outbound_on w number k (Some q) e h b = from_on w number k q q.outbound refl e h b
+  outbound_after : (w : World) (number k : ℕ) (o : Option Conn) → account (World.outbound_at w number k o).world c ≡ happen (account w c) (outbound_events c o)
+  outbound_after w number k None = refl
+  outbound_after w number k (Some q) = from_after w number k q q.outbound
 
   -- any line
 
-  conn_on : (w : World) (number k : ℕ) (traffic : lines.Traffic) → On w → IsQuietOn w c k traffic → On (World.conn_line w number k traffic).world
-  conn_on w number k lines.Up h q = same (World.server_receives w k).world w (server_receives_clients w k (get w.conns k)) h
-  conn_on w number k lines.Down h q = outbound_on w number k (get w.conns k) refl h q
-  conn_on w number k lines.Gone h q = same (World.goes w k) w (gone_clients w k w.host (World.is_attached w k)) h
-  conn_on w number k (lines.Raw text) h q = same (World.raw_at w k text (get w.conns k)) w (raw_clients w k text (get w.conns k)) h
+  conn_after : (w : World) (number k : ℕ) (traffic : lines.Traffic) → account (World.conn_line w number k traffic).world c ≡ happen (account w c) (traffic_events w c k traffic)
+  conn_after w number k lines.Up = same (World.server_receives w k).world w (server_receives_clients w k (get w.conns k))
+  conn_after w number k lines.Down = outbound_after w number k (get w.conns k)
+  conn_after w number k lines.Gone = same (World.goes w k) w (gone_clients w k w.host (World.is_attached w k))
+  conn_after w number k (lines.Raw text) = same (World.raw_at w k text (get w.conns k)) w (raw_clients w k text (get w.conns k))
 
-  server_on : (w : World) (service : lines.Service) → On w → On (World.server_line w service).world
-  server_on w lines.Stop h = same (World.stop w w.host) w (stop_clients w w.host) h
-  server_on w lines.Start h = same (World.start w w.host).world w (start_clients w w.host) h
-  server_on w (lines.Fuse n how) h = h
-  server_on w lines.Compact h = same (World.compact w w.host) w (compact_clients w w.host) h
-  server_on w (lines.Limit updates sessions) h = h
-  server_on w lines.ShowServer h = h
-  server_on w lines.BriefServer h = h
+  server_after : (w : World) (service : lines.Service) → account (World.server_line w service).world c ≡ account w c
+  server_after w lines.Stop = same (World.stop w w.host) w (stop_clients w w.host)
+  server_after w lines.Start = same (World.start w w.host).world w (start_clients w w.host)
+  server_after w (lines.Fuse n how) = refl
+  server_after w lines.Compact = same (World.compact w w.host) w (compact_clients w w.host)
+  server_after w (lines.Limit updates sessions) = refl
+  server_after w lines.ShowServer = refl
+  server_after w lines.BriefServer = refl
 
-  pub step_on : (w : World) (number : ℕ) (l : lines.Line) → On w → IsQuiet w c l → On (World.step w number l).world
-  step_on w number (lines.OfClient d call) h q = call_on w number d (slot w d) h (slot_is w d h) call q
-  step_on w number (lines.AsksClient d question) h q = h
-  step_on w number (lines.OfConnection k traffic) h q = conn_on w number k traffic h q
-  step_on w number (lines.OfServer service) h q = server_on w service h
-  step_on w number (lines.Drain n) h q = absurd q
-  step_on w number lines.Link h q = h
+  -- a drain, move by move
 
-  pub run_on : (r : Run) (ls : List (ℕ × lines.Line)) → On r.world → AreQuiet r c ls → On (run r ls).world
-  run_on r [] h q = h
-  run_on r (l ∷ ls) h q = run_on (line r l.0 l.1) ls (step_on r.world l.0 l.1 h q.0) q.1
+  stays : (w : World) (number n : ℕ) → World.drain_next w number ≡ None → account (World.drain w number n).world c ≡ account w c
+  unfolding World.drain
+  stays w number zero e = refl
+  stays w number (suc n) e = ap (λ o. account (World.drain (World.or_quiet w o).world number n).world c) e ∙ stays w number n e
+
+  module _ (w : World) (number n : ℕ) (rest : (v : World) → account (World.drain v number n).world c ≡ happen (account v c) (moved_events n v number c)) where
+    next_move_after : (inbound outbound : Option ℕ) → World.least World.has_inbound (entries w.conns) ≡ inbound → World.least World.has_outbound (entries w.conns) ≡ outbound →
+        account (World.drain (World.or_quiet w (World.drain_step w number inbound outbound)).world number n).world c
+        ≡ happen (account w c) (where_some (move inbound outbound) (λ m. traffic_events w c m.0 m.1 ++ moved_events n (World.conn_line w number m.0 m.1).world number c))
+    next_move_after (Some k) outbound e f =
+        rest (World.server_receives w k).world ∙ ap (λ z. happen z (moved_events n (World.server_receives w k).world number c)) (conn_after w number k lines.Up)
+    next_move_after None (Some k) e f =
+        rest (World.peer_receives w number k).world ∙ ap (λ z. happen z (moved_events n (World.peer_receives w number k).world number c)) (conn_after w number k lines.Down)
+        ∙ sym (happen-append (account w c) (traffic_events w c k lines.Down) (moved_events n (World.peer_receives w number k).world number c))
+    next_move_after None None e f =
+        stays w number n (ap (λ o. World.drain_step w number o (World.least World.has_outbound (entries w.conns))) e ∙ ap (World.drain_step w number None) f)
+
+  drains : (number n : ℕ) (w : World) → account (World.drain w number n).world c ≡ happen (account w c) (moved_events n w number c)
+  unfolding World.drain
+  drains number zero w = refl
+  drains number (suc n) w = next_move_after w number n (drains number n) (World.least World.has_inbound (entries w.conns)) (World.least World.has_outbound (entries w.conns)) refl refl
+
+  pub step_after : (w : World) (number : ℕ) (l : lines.Line) → account (World.step w number l).world c ≡ happen (account w c) (line_events w c number l)
+  step_after w number (lines.OfClient d call) = call_after w number d call
+  step_after w number (lines.AsksClient d question) = refl
+  step_after w number (lines.OfConnection k traffic) = conn_after w number k traffic
+  step_after w number (lines.OfServer service) = server_after w service
+  step_after w number (lines.Drain n) = drains number n w
+  step_after w number lines.Link = refl
+
+pub follows_events : FollowsEvents
+follows_events r c [] = refl
+follows_events r c (l ∷ ls) = follows_events (line r l.0 l.1) c ls
+    ∙ ap (λ x. happen x (events (World.step r.world l.0 l.1).world c ls)) (step_after c r.world l.0 l.1)
+    ∙ sym (happen-append (account r.world c) (line_events r.world c l.0 l.1) (events (World.step r.world l.0 l.1).world c ls))

@@ -218,7 +218,7 @@ resent_sound x h = either_sound (record x { sent = issued x; fresh = [] }) x (is
 
 -- edits
 
-actor_bound : (o : Option Resume) → IsSession o → actor_in o ≤ most_actor
+pub actor_bound : (o : Option Resume) → IsSession o → actor_in o ≤ most_actor
 actor_bound None h = omega arith
 actor_bound (Some s) h = h.1
 
@@ -258,45 +258,45 @@ edit_sound x e out h s p =
 
 -- undo and redo
 
-went_sound : (way : calls.Direction) (x : Account) (entry : List Change) → x.batch ≡ None → calls.entry_of way x.history ≡ Some entry → IsSound x → spent (last_issued x + 1) (length (calls.entry_bodies entry)) ≡ None
-    → calls.presence_size (calls.entry_presence x.me entry) ≤ most_bytes → IsSound (calls.went_back way x entry).account
-went_sound way x entry e f h s fits =
+went_sound : (direction : calls.Direction) (x : Account) (entry : List Change) → x.batch ≡ None → calls.entry_of direction x.history ≡ Some entry → IsSound x → spent (last_issued x + 1) (length (calls.entry_bodies entry)) ≡ None
+    → calls.presence_size (calls.entry_presence x.me entry) ≤ most_bytes → IsSound (calls.went_back direction x entry).account
+went_sound direction x entry e f h s fits =
     let bs = calls.entry_bodies entry in
     let t = calls.tree_or_bare (shown x) in
-    let valid : AreValidChanges entry = holds_entry AreValidChanges tt changes_append way x.history entry h.history f in
+    let valid : AreValidChanges entry = holds_entry AreValidChanges tt changes_append direction x.history entry h.history f in
     let own : AreOwn x.told (issued x) None = subst (AreOwn x.told (issued x)) e h.own in
-    let past = calls.gone way (calls.entry_reversal t x.me entry) x.history in
+    let past = calls.gone direction (calls.entry_reversal t x.me entry) x.history in
     called x (x.fresh ++ calls.issues_of x bs) x.batch x.node (calls.entry_presence x.me entry) (calls.entry_names x.unsent entry) past h
     (remade x.stage (issued x) (x.sent ++ (x.fresh ++ calls.issues_of x bs)) x.batch x.batch x.history past x.confirmed
     (λ (m : MadeNothing (issued x) x.batch x.history).
-    let patches : ArePatches entry = holds_entry ArePatches refl patches_append way x.history entry m.history f in
-    record { closed = nothing_issued x bs m.closed patches; bodies = m.bodies; changes = m.changes; history = holds_gone ArePatches refl patches_append way (calls.entry_reversal t x.me entry) x.history (patches_back t x.me entry patches) m.history }) h.tree)
+    let patches : ArePatches entry = holds_entry ArePatches refl patches_append direction x.history entry m.history f in
+    record { closed = nothing_issued x bs m.closed patches; bodies = m.bodies; changes = m.changes; history = holds_gone ArePatches refl patches_append direction (calls.entry_reversal t x.me entry) x.history (patches_back t x.me entry patches) m.history }) h.tree)
     h.node (subst (AreOwn x.told (x.sent ++ (x.fresh ++ calls.issues_of x bs))) (sym e) (own_issued x bs (issues_more x bs h.own.runs) h.own.closed (entry_valid entry valid) (unspent (last_issued x + 1) (length bs) s (omega (arith, own.next)))))
-    (holds_gone AreValidChanges tt changes_append way (calls.entry_reversal t x.me entry) x.history (reversal_valid t x.me entry (bare_valid x h) h.presence.own valid) h.history)
+    (holds_gone AreValidChanges tt changes_append direction (calls.entry_reversal t x.me entry) x.history (reversal_valid t x.me entry (bare_valid x h) h.presence.own valid) h.history)
     (presence_valid x.me entry h.presence.own valid) fits
 
-size_at : (way : calls.Direction) (x : Account) (entry : List Change) (out : calls.Done) (b c : Bool) (fault : calls.UndoFault) → nat_lt most_bytes (calls.presence_size (calls.entry_presence x.me entry)) ≡ c → x.batch ≡ None → calls.entry_of way x.history ≡ Some entry → IsSound x
+size_at : (direction : calls.Direction) (x : Account) (entry : List Change) (out : calls.Done) (b c : Bool) (fault : calls.UndoFault) → nat_lt most_bytes (calls.presence_size (calls.entry_presence x.me entry)) ≡ c → x.batch ≡ None → calls.entry_of direction x.history ≡ Some entry → IsSound x
     → spent (last_issued x + 1) (length (calls.entry_bodies entry)) ≡ None
-    → cond b (Err fault) (cond c (Err (calls.UndoTooLarge (calls.presence_size (calls.entry_presence x.me entry)))) (Ok (Some (calls.went_back way x entry)))) ≡ Ok (Some out) → IsSound out.account
-size_at way x entry out true c fault q e f h s p = cc
-size_at way x entry out false true fault q e f h s p = cc
-size_at way x entry out false false fault q e f h s p =
-    subst (λ (d : calls.Done). IsSound d.account) (some_is (calls.went_back way x entry) out (ok_is _ _ p)) (went_sound way x entry e f h s (fits_by (calls.presence_size (calls.entry_presence x.me entry)) q))
+    → cond b (Err fault) (cond c (Err (calls.UndoTooLarge (calls.presence_size (calls.entry_presence x.me entry)))) (Ok (Some (calls.went_back direction x entry)))) ≡ Ok (Some out) → IsSound out.account
+size_at direction x entry out true c fault q e f h s p = cc
+size_at direction x entry out false true fault q e f h s p = cc
+size_at direction x entry out false false fault q e f h s p =
+    subst (λ (d : calls.Done). IsSound d.account) (some_is (calls.went_back direction x entry) out (ok_is _ _ p)) (went_sound direction x entry e f h s (fits_by (calls.presence_size (calls.entry_presence x.me entry)) q))
 
-clocked_at : (way : calls.Direction) (x : Account) (entry : List Change) (out : calls.Done) (o : Option ℕ) → spent (last_issued x + 1) (length (calls.entry_bodies entry)) ≡ o → x.batch ≡ None → calls.entry_of way x.history ≡ Some entry → IsSound x
-    → calls.back_clocked way x entry (calls.entry_bodies entry) o ≡ Ok (Some out) → IsSound out.account
-clocked_at way x entry out (Some l) q e f h p = cc
-clocked_at way x entry out None q e f h p =
+clocked_at : (direction : calls.Direction) (x : Account) (entry : List Change) (out : calls.Done) (o : Option ℕ) → spent (last_issued x + 1) (length (calls.entry_bodies entry)) ≡ o → x.batch ≡ None → calls.entry_of direction x.history ≡ Some entry → IsSound x
+    → calls.back_clocked direction x entry (calls.entry_bodies entry) o ≡ Ok (Some out) → IsSound out.account
+clocked_at direction x entry out (Some l) q e f h p = cc
+clocked_at direction x entry out None q e f h p =
     let size = size_of (frame_of_ops (ops_from (actor x) (last_issued x + 1) (calls.entry_bodies entry))) in
-    size_at way x entry out (is_some_list (calls.entry_bodies entry) && nat_lt most_bytes size) (nat_lt most_bytes (calls.presence_size (calls.entry_presence x.me entry))) (calls.UndoBatchTooLarge size) refl e f h q p
+    size_at direction x entry out (is_some_list (calls.entry_bodies entry) && nat_lt most_bytes size) (nat_lt most_bytes (calls.presence_size (calls.entry_presence x.me entry))) (calls.UndoBatchTooLarge size) refl e f h q p
 
-entry_at : (way : calls.Direction) (x : Account) (out : calls.Done) (o : Option (List Change)) → calls.entry_of way x.history ≡ o → x.batch ≡ None → IsSound x → calls.back_entry way x o ≡ Ok (Some out) → IsSound out.account
-entry_at way x out None f e h p = absurd (none_some out (ok_is _ _ p))
-entry_at way x out (Some entry) f e h p = clocked_at way x entry out (spent (last_issued x + 1) (length (calls.entry_bodies entry))) refl e f h p
+entry_at : (direction : calls.Direction) (x : Account) (out : calls.Done) (o : Option (List Change)) → calls.entry_of direction x.history ≡ o → x.batch ≡ None → IsSound x → calls.back_entry direction x o ≡ Ok (Some out) → IsSound out.account
+entry_at direction x out None f e h p = absurd (none_some out (ok_is _ _ p))
+entry_at direction x out (Some entry) f e h p = clocked_at direction x entry out (spent (last_issued x + 1) (length (calls.entry_bodies entry))) refl e f h p
 
-back_at : (way : calls.Direction) (x : Account) (out : calls.Done) (o : Option OpenBatch) → x.batch ≡ o → IsSound x → calls.back_at way x o ≡ Ok (Some out) → IsSound out.account
-back_at way x out (Some o) e h p = cc
-back_at way x out None e h p = entry_at way x out (calls.entry_of way x.history) refl e h p
+back_at : (direction : calls.Direction) (x : Account) (out : calls.Done) (o : Option OpenBatch) → x.batch ≡ o → IsSound x → calls.back_at direction x o ≡ Ok (Some out) → IsSound out.account
+back_at direction x out (Some o) e h p = cc
+back_at direction x out None e h p = entry_at direction x out (calls.entry_of direction x.history) refl e h p
 
-pub back_sound : (way : calls.Direction) (x : Account) (out : calls.Done) → IsSound x → calls.go_back way x ≡ Ok (Some out) → IsSound out.account
-back_sound way x out h p = back_at way x out x.batch refl h p
+pub back_sound : (direction : calls.Direction) (x : Account) (out : calls.Done) → IsSound x → calls.go_back direction x ≡ Ok (Some out) → IsSound out.account
+back_sound direction x out h p = back_at direction x out x.batch refl h p

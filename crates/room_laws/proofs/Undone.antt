@@ -7,13 +7,12 @@ use Rattle.room_model.specs.Account.{Batch, actor}
 use Rattle.room_model.specs.Sound.{RunsOn}
 use Rattle.room_steps.specs.Laws.{UndoRestores}
 use Rattle.room_model.specs.World.{account}
-use Rattle.room_model.specs.Run.{Run, run, opened, issued_of}
+use Rattle.room_model.specs.Run.{Run, issued_of}
 use Rattle.room_laws.specs.Ledger.{In}
 use Rattle.room_laws.specs.Laws.{Kept, Once}
-use Rattle.room_laws.specs.Undoing.{Accepts, TakesBack, IsInOrder, EachUndone, bodies_after}
+use Rattle.room_laws.specs.Undoing.{Accepts, TakesBack, IsInOrder, bodies_after}
 use Rattle.room_laws.proofs.Advance.{tree_after-append}
 use Rattle.room_laws.proofs.Settled.{fold_settled, formed_after, tree_is}
-use Rattle.room_laws.proofs.Whole.{each_once}
 
 -- the batch that an update took
 pub record Received (t : Nodes) (u : Update) (bs : List Batch) : Type 0 where
@@ -71,6 +70,3 @@ module _ (restores : UndoRestores) where
       ap (tree_after s.tree) (sym (append_assoc us (b ∷ vs) (u ∷ []))) ∙ tree_after-append s.tree (us ++ b ∷ vs) (u ∷ []) ∙ second
       ∙ ap (λ z. fold z back.bodies) before ∙ ap (fold (fold (fold t made.bodies) (bodies_after vs))) h.reversal
       ∙ restores shown t made.bodies (bodies_after vs) g.formed (formed_after s.tree g.opening us) g.ordered g.ordered_log g.bodies g.between h.agree h.apart
-
-  pub each_undone : EachUndone
-  each_undone s ls c shown made back us vs ws b u h calm t g = undone s (run (opened s) ls) c shown made back us vs ws b u (each_once s ls c h calm) t g

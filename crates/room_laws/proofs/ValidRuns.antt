@@ -74,7 +74,7 @@ module _ (keep : KeepsSound) (items : ItemsOfValid) where
     state = refl;
   }
 
-  good : (s : State) (ls : List (ℕ × lines.Line)) → IsValidState s → AreLines ls → Good (0 + length ls) s (run (opened s) ls)
+  pub good : (s : State) (ls : List (ℕ × lines.Line)) → IsValidState s → AreLines ls → Good (0 + length ls) s (run (opened s) ls)
   good s ls h l = lines_good 0 s ls (opened s) l.spelled (omega (arith, l.fewer)) (begins s h)
 
   pub valid_run : ValidRun

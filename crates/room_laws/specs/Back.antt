@@ -1,5 +1,5 @@
 -- Undoing what a client did, where nobody else's operations came between.
-use Rattle.std.specs.Prelude.{◌≡◌, ℕ, zero, suc, ◌<◌, ◌≤◌, Bool, List, [], ◌∷◌, ◌++◌, length, Option, Some, None, Ok}
+use Rattle.std.specs.Prelude.{◌≡◌, ℕ, zero, suc, ◌≤◌, Bool, List, [], ◌∷◌, ◌++◌, length, Option, Some, None, Ok}
 use Rattle.room_json.specs.Value.{Value}
 use Rattle.room_nodes.specs.declared.nodes.Body.{Body}
 use Rattle.room_nodes.specs.declared.nodes.Change.{Change}
@@ -9,7 +9,8 @@ use Rattle.room_log.specs.Log.{bodies_of}
 use Rattle.room_model.specs.Edits.{Edit, Made, make}
 use Rattle.room_nodes.specs.Reversal.{reverse_all}
 use Rattle.room_model.specs.History.{History, redo_entry}
-use Rattle.room_model.specs.Account.{Account, OpenBatch, shown, clocks}
+use Rattle.room_model.specs.Account.{Account, Batch, OpenBatch, bodies_in, clocks, shown}
+use Rattle.room_model.specs.Sound.{changes_in}
 use Rattle.room_model.specs.Calls as calls
 
 -- the entries that undoing takes in turn: the bag first, if it holds something
@@ -40,11 +41,36 @@ pub record LeadsBack (s : Nodes) (k : ℕ) (x : Account) : Type 0 where
   pub few : k ≤ 50
   pub begun : k ≡ 0 → in_bag x.history.bag ≡ []
 
--- a call leaves as many entries, or one more
-pub record Leads (s : Nodes) (k : ℕ) (x : Account) : Type 0 where
-  pub count : ℕ
-  pub grown : count ≤ suc k
-  pub leads : LeadsBack s count x
+-- How many entries were begun since some moment, if k were before. Noting puts one, or adds to what is gathered in a
+-- pause.
+
+abbrev pub gathered_count : Option (List Change) → ℕ → ℕ
+gathered_count None k = suc k
+gathered_count (Some []) k = suc k
+gathered_count (Some (c ∷ cs)) k = k
+
+abbrev pub noted_count : List Change → History → ℕ → ℕ
+noted_count [] h k = k
+noted_count (c ∷ cs) h k = gathered_count h.bag k
+
+-- what is noted of the batch that a call issues at once
+abbrev pub noted_of : Nodes → List Batch → List Change
+noted_of t [] = []
+noted_of t (b ∷ bs) = calls.changes_back t b.bodies
+
+abbrev pub edit_count : Account → ℕ → calls.Done → ℕ
+edit_count x k out = noted_count (noted_of (calls.tree_or_bare (shown x)) out.issues) x.history k
+
+abbrev pub end_count : Account → ℕ → ℕ
+end_count x k = noted_count (changes_in x.batch) x.history k
+
+-- within a batch a patch is noted at its end
+abbrev pub patch_count : Option OpenBatch → List Change → History → ℕ → ℕ
+patch_count None back h k = noted_count back h k
+patch_count (Some o) back h k = k
+
+abbrev pub presence_count : Account → ℕ → List (List ℕ × Value) → Bool → ℕ
+presence_count x k patch in_history = patch_count x.batch (calls.back_noted x patch in_history) x.history k
 
 abbrev pub Reverses : Nodes → List Body → Type 0
 Reverses t bs = fold (fold t bs) (reverse_all t bs) ≡ t
@@ -58,26 +84,30 @@ Undoes (suc k) x y = record {
   more : Undoes k out.account y;
 }
 
+-- the list keeps 50 entries, so that many can lead back
 pub record UndoesAlone : Type 0 where
-  pub begins : (s : Nodes) (x : Account) → shown x ≡ Some s → x.batch ≡ None → in_bag x.history.bag ≡ []
-      → LeadsBack s 0 x
-  pub edit : (s : Nodes) (k : ℕ) (x : Account) (e : Edit) (out : calls.Done) → LeadsBack s k x → k < 50
-      → ((t : Nodes) (m : Made) → shown x ≡ Some t → make t (clocks x) e ≡ Ok m → Reverses t (bodies_of m.ops))
-      → calls.edit x e ≡ Ok out → Leads s k out.account
+  pub begins : (s : Nodes) (x : Account) → shown x ≡ Some s → bodies_in x.batch ≡ [] →
+      calls.entry_bodies (changes_in x.batch) ≡ [] → in_bag x.history.bag ≡ [] → LeadsBack s 0 x
+  pub edit : (s : Nodes) (k : ℕ) (x : Account) (e : Edit) (out : calls.Done) → LeadsBack s k x →
+      edit_count x k out ≤ 50 →
+      ((t : Nodes) (m : Made) → shown x ≡ Some t → make t (clocks x) e ≡ Ok m → Reverses t (bodies_of m.ops)) →
+      calls.edit x e ≡ Ok out → LeadsBack s (edit_count x k out) out.account
   pub batch_begin : (s : Nodes) (k : ℕ) (x y : Account) → LeadsBack s k x → calls.batch_begin x ≡ Ok y → LeadsBack s k y
-  pub batch_end : (s : Nodes) (k : ℕ) (x : Account) (out : calls.Done) → LeadsBack s k x → k < 50
-      → calls.batch_end x ≡ Ok out → Leads s k out.account
+  pub batch_end : (s : Nodes) (k : ℕ) (x : Account) (out : calls.Done) → LeadsBack s k x → end_count x k ≤ 50 →
+      calls.batch_end x ≡ Ok out → LeadsBack s (end_count x k) out.account
   pub pause : (s : Nodes) (k : ℕ) (x : Account) → LeadsBack s k x → LeadsBack s k (calls.pause x)
   pub resume : (s : Nodes) (k : ℕ) (x : Account) → LeadsBack s k x → LeadsBack s k (calls.resume x)
-  pub undo : (s : Nodes) (k : ℕ) (x : Account) (out : calls.Done) → LeadsBack s (suc k) x
-      → calls.go_back calls.Undo x ≡ Ok (Some out) → LeadsBack s k out.account
-  pub redo : (s : Nodes) (k : ℕ) (x : Account) (out : calls.Done) → LeadsBack s k x → k < 50
-      → ((t : Nodes) (e : List Change) → shown x ≡ Some t → redo_entry x.history ≡ Some e
-      → Reverses t (calls.entry_bodies e)) → calls.go_back calls.Redo x ≡ Ok (Some out) → Leads s k out.account
-  pub presence : (s : Nodes) (k : ℕ) (x y : Account) (patch : List (List ℕ × Value)) (in_history : Bool)
-      → LeadsBack s k x → k < 50 → calls.presence x patch in_history ≡ Ok y → Leads s k y
+  pub undo : (s : Nodes) (k : ℕ) (x : Account) (out : calls.Done) → LeadsBack s (suc k) x →
+      calls.go_back calls.Undo x ≡ Ok (Some out) → LeadsBack s k out.account
+  pub redo : (s : Nodes) (k : ℕ) (x : Account) (out : calls.Done) → LeadsBack s k x → suc k ≤ 50 →
+      ((t : Nodes) (e : List Change) → shown x ≡ Some t → redo_entry x.history ≡ Some e →
+      Reverses t (calls.entry_bodies e)) →
+      calls.go_back calls.Redo x ≡ Ok (Some out) → LeadsBack s (suc k) out.account
+  pub presence : (s : Nodes) (k : ℕ) (x y : Account) (patch : List (List ℕ × Value)) (in_history : Bool) →
+      LeadsBack s k x → presence_count x k patch in_history ≤ 50 → calls.presence x patch in_history ≡ Ok y →
+      LeadsBack s (presence_count x k patch in_history) y
   -- what it takes, and all else that leaves what is shown, the batch and the history
-  pub same : (s : Nodes) (k : ℕ) (x y : Account) → shown y ≡ shown x → y.batch ≡ x.batch → y.history ≡ x.history
-      → LeadsBack s k x → LeadsBack s k y
-  pub restores : (s : Nodes) (k : ℕ) (x y : Account) → LeadsBack s k x → x.batch ≡ None → Undoes k x y
-      → shown y ≡ Some s
+  pub same : (s : Nodes) (k : ℕ) (x y : Account) → shown y ≡ shown x → y.batch ≡ x.batch → y.history ≡ x.history →
+      LeadsBack s k x → LeadsBack s k y
+  pub restores : (s : Nodes) (k : ℕ) (x y : Account) → LeadsBack s k x → x.batch ≡ None → Undoes k x y →
+      shown y ≡ Some s

@@ -3,16 +3,13 @@ use Rattle.std.specs.Prelude.{◌≡◌, ℕ, List, [], ◌∷◌, ◌++◌}
 use Rattle.room_nodes.specs.declared.nodes.Body.{Body}
 use Rattle.room_nodes.specs.Cells.{Agrees, IsApart, cells_all}
 use Rattle.room_nodes.specs.Shape.{Nodes, IsFormed}
-use Rattle.room_nodes.specs.Steps.{fold}
 use Rattle.room_log.specs.Log.{State, Update, tree_after, updates_of}
 use Rattle.room_model.specs.Account.{Batch, actor}
-use Rattle.room_model.specs.Lines.{Line}
 use Rattle.room_nodes.specs.Ordered.{IsOrderedTree, AreOrderedBodies}
 use Rattle.room_nodes.specs.Reversal.{reverse_all}
 use Rattle.room_model.specs.World.{account}
-use Rattle.room_model.specs.Run.{Run, run, opened, issued_of, IsUndisturbed}
+use Rattle.room_model.specs.Run.{Run, issued_of}
 use Rattle.room_laws.specs.Ledger.{In}
-use Rattle.room_laws.specs.Laws.{IsReadable}
 
 -- the operations of these updates, in order
 abbrev pub bodies_after : List Update → List Body
@@ -45,11 +42,3 @@ pub record IsInOrder (s : State) (shown : Nodes) (made : Batch) (us vs : List Up
   pub ordered_log : IsOrderedTree (tree_after s.tree us)
   pub bodies : AreOrderedBodies made.bodies
   pub between : AreOrderedBodies (bodies_after vs)
-
--- then the tree is as if neither of the two batches had been
-abbrev pub EachUndone : Type 0
-EachUndone =
-    (s : State) (ls : List (ℕ × Line)) (c : ℕ) (shown : Nodes) (made back : Batch) (us vs ws : List Update)
-    (b u : Update) → IsReadable s ls → IsUndisturbed (run (opened s) ls) c
-    → TakesBack s (run (opened s) ls) c shown made back us vs ws b u → IsInOrder s shown made us vs
-    → tree_after s.tree (us ++ b ∷ (vs ++ u ∷ [])) ≡ fold (tree_after s.tree us) (bodies_after vs)

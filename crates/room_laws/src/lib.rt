@@ -9,6 +9,7 @@ mod runs;
 
 pub use accounts::{history_bounded, keeps_clocks, keeps_open, keeps_sound, undoes_alone};
 pub use runs::{
-    each_once, each_reversed, each_served, each_shows, each_taken, each_undo, each_undone,
-    report_in_order, sound_accounts, valid_run,
+    at_every_moment, each_once, each_reversed, each_served, each_shows, each_taken, each_undo,
+    each_undo_alone, each_undone, follows_events, log_grows, report_in_order, runs_singly,
+    sound_accounts, valid_run,
 };
