@@ -1,15 +1,14 @@
--- One operation against what another writes, and the place of a node in a list.
-use Rattle.std.specs.Prelude.{◌≡◌, ℕ, Bool, true, ◌||◌, not, List, Option, Some, IfSome}
+-- One operation against what another writes.
+use Rattle.std.specs.Prelude.{ℕ, Bool, ◌||◌, not, List, Option}
 use Rattle.std.specs.FinMap.{get}
 use Rattle.room_ids.specs.declared.ids.NodeId.{NodeId}
 use Rattle.room_nodes.specs.Cells.{create_reads, delete_reads, effect_cells, meets, reads, set_key_reads, writes}
-use Rattle.room_nodes.specs.Shape.{Nodes, child_at, children, next_of}
-use Rattle.room_nodes.specs.Steps.{holds_list, is_other, is_under, is_void, next_key, without}
+use Rattle.room_nodes.specs.Shape.{Nodes}
+use Rattle.room_nodes.specs.Steps.{holds_list, is_void}
 use Rattle.room_nodes.specs.declared.cells.Cell.{Cell}
 use Rattle.room_nodes.specs.declared.nodes.Body.{Body}
 use Rattle.room_nodes.specs.declared.nodes.Body.TheVariants.{Create}
 use Rattle.room_nodes.specs.declared.nodes.Kind.TheVariants.{List as Listed}
-use Rattle.room_tree.specs.Skipped.{next_skip}
 use Rattle.room_foot.specs.Parts.{heads, place_parts, write_parts}
 
 -- whether an operation that isn't void writes one of these cells
@@ -38,18 +37,3 @@ place_heads t p k r = heads (place_parts t p k r)
 -- whether a create is void, which what it makes has no part in
 abbrev pub is_void_create : Nodes → NodeId → NodeId → List ℕ → Option NodeId → Bool
 is_void_create t x p k r = is_void t (Create x p k r Listed)
-
--- what may be a child of p is one
-abbrev pub IsKid : Nodes → NodeId → Option NodeId → Type 0
-IsKid t p o = IfSome o (λ x. is_under p x (get t x) ≡ true)
-
--- whether another node than `own` has the key under p
-abbrev pub is_taken : Nodes → NodeId → NodeId → List ℕ → Bool
-is_taken t p own k = is_other own (child_at t p k)
-
--- the least key above k under p, that of x not counted
-abbrev pub next_beside : Nodes → NodeId → NodeId → List ℕ → Option (List ℕ)
-next_beside t p x k = next_skip t p x (next_of (Some k) (children t p))
-
-abbrev pub next_without : Nodes → NodeId → Option NodeId → List ℕ → Option (List ℕ)
-next_without t p r k = next_key (without t r) p k

@@ -1,3 +1,4 @@
+//! Tables of operations with the cells that they read and write.
 use super::*;
 use room_apply::step;
 use room_ids::{NodeId, OpId, Stamp};

@@ -1,56 +1,14 @@
 //! Whether an operation does nothing.
 ghost use Rattle.std.specs.Prelude.{◌≡◌};
-ghost use Rattle.std.specs.FinMap.{get};
-ghost use Rattle.room_nodes.specs.Steps.{has_room, holds_object, is_void as is_void_of, without, without_replaced};
-ghost use Rattle.room_foot.specs.Meeting.{IsKid, is_void_create as is_void_create_of};
+ghost use Rattle.room_nodes.specs.Steps.{is_void as is_void_of};
+ghost use Rattle.room_foot.specs.Meeting.{is_void_create as is_void_create_of};
 ghost use Rattle.room_nodes.specs.declared.nodes.Body.TheVariants.{SetKey as ASetKey};
 
 use crate::taking::is_placed;
 use room_ids::{NodeId, same_id};
 use room_json::Text;
-use room_nodes::{Body, Kind};
-use room_tree::{Tree, is_child_of, is_list_at};
-
-fn has_room_at<T: Tree>(t: &T, id: &NodeId) -> bool
-    ensures { result ≡ has_room (get (T.nodes t.now) id.now) }
-{
-    match t.node(id) {
-        Some(node) => match &node.kind {
-            Kind::Register(_) => false,
-            _ => node.depth < 60,
-        },
-        None => false,
-    }
-}
-
-fn is_object_at<T: Tree>(t: &T, id: &NodeId) -> bool
-    ensures { result ≡ holds_object (get (T.nodes t.now) id.now) }
-{
-    match t.node(id) {
-        Some(node) => match &node.kind {
-            Kind::Object(_) => true,
-            _ => false,
-        },
-        None => false,
-    }
-}
-
-/// The child of a list that a create takes out.
-fn replaced_child<T: Tree>(t: &T, list: &NodeId, replaces: &Option<NodeId>) -> Option<NodeId>
-    ensures without { without (T.nodes t.now) result ≡ without_replaced (T.nodes t.now) list.now replaces.now }
-    ensures under { IsKid (T.nodes t.now) list.now result }
-{
-    match replaces {
-        Some(x) => {
-            if is_child_of(t, list, x) {
-                Some(*x)
-            } else {
-                None
-            }
-        },
-        None => None,
-    }
-}
+use room_nodes::Body;
+use room_tree::{Tree, has_room_at, is_list_at, is_object_at, replaced_child};
 
 fn is_void_key<T: Tree>(t: &T, id: &NodeId, key: &Text) -> bool
     ensures { result ≡ is_void_of (T.nodes t.now) (ASetKey id.now key.now) }
