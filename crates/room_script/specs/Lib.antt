@@ -1,0 +1,5 @@
+pub mod Edits
+pub mod Generator
+pub mod Grammar
+pub mod Live
+pub mod Words
