@@ -4,7 +4,8 @@ ghost use Rattle.std.specs.IoError.{error_kind};
 ghost use Rattle.std.specs.Io.KnownBytes.{Appends, IsAtEnd};
 ghost use Rattle.std.specs.Process.{exit_status};
 ghost use Rattle.room_edge.specs.Causes.{Rose};
-ghost use Rattle.room_top.specs.Outcome.{outcome_of, usage, read_fault, IsReplay, IsText, Answers, TakesAtMost, is_status};
+ghost use Rattle.room_top.specs.Outcome.{outcome_of, usage, read_fault, is_status};
+ghost use Rattle.room_top.specs.Outcome.{IsReplay, IsText, Answers, TakesAtMost};
 ghost use Rattle.room.specs.Words.{words_of, IsOutOfMemory, IsOfInput};
 
 use room_edge::{Sink, Source};

@@ -4,8 +4,8 @@ use Rattle.room_edge.specs.Causes.{Rose}
 use Rattle.room_disk.specs.declared.disk.DiskFault.{DiskFault}
 use Rattle.room_disk.specs.declared.disk.DiskFault.TheVariants.{Memory, Failed}
 
--- The counts don't fall. `Failed` comes only where the count rose, and the inner one too where it wasn't the stop; `Memory` only
--- from a disk that may run out of it.
+-- The counts don't fall. `Failed` comes only where the count rose, and the inner one too where it wasn't the stop;
+-- `Memory` only from a disk that may run out of it.
 pub record HasCause {D T : Type 0} (may_run_out : Bool) (faults inner_faults : D → ℕ) (stopped : D → Bool)
     (old new : D) (result : Result T DiskFault) : Type 0 where
   pub later : faults old ≤ faults new

@@ -17,5 +17,6 @@ content_in files f = bytes_at (get nat_cmp files f)
 pub small_prop : (files : BTreeMap ℕ (Vec ℕ Global)) → (p q : (f : ℕ) → length (content_in files f) < 2 ^ 62) → p ≡ q
 small_prop files p q = λ i f. le_prop (p f) (q f) i
 
-pub small_seen : (files : BTreeMap ℕ (Vec ℕ Global)) (seen : ℕ → List ℕ) → content_in files ≡ seen → ((f : ℕ) → length (content_in files f) < 2 ^ 62) → (f : ℕ) → length (seen f) < 2 ^ 62
+pub small_seen : (files : BTreeMap ℕ (Vec ℕ Global)) (seen : ℕ → List ℕ) → content_in files ≡ seen
+    → ((f : ℕ) → length (content_in files f) < 2 ^ 62) → (f : ℕ) → length (seen f) < 2 ^ 62
 small_seen files seen kept small f = subst (λ (h : ℕ → List ℕ). length (h f) < 2 ^ 62) kept (small f)

@@ -55,7 +55,8 @@ pub record StaysBetween (before now : ℕ) (was is : Images) (old new : Reads) :
   pub seen : (f : ℕ) → new f ≡ old f
 
 -- a call on one file: one moment more at most, the other files as they were, this file and its images by a step
-pub record StepsBetween (file : ℕ) (step : List ℕ → List ℕ → Type 0) (before now : ℕ) (was is : Images) (old new : Reads) : Type 0 where
+pub record StepsBetween (file : ℕ) (step : List ℕ → List ℕ → Type 0) (before now : ℕ) (was is : Images)
+    (old new : Reads) : Type 0 where
   pub later : before ≤ now
   pub most : now ≤ before + 1
   pub keeps : Keeps before was is

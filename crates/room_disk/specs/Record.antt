@@ -1,5 +1,5 @@
--- What a record of calls says of a disk that began empty. The newest call stands first where a list is named `older` or is
--- reversed.
+-- What a record of calls says of a disk that began empty. The newest call stands first where a list is named `older`
+-- or is reversed.
 use Rattle.std.specs.Prelude.{◌≡◌, ◌⊎◌, ℕ, List, [], ◌∷◌, ◌++◌, length, take, cond, ◌==◌, Bool, true, false, refl}
 use Rattle.std.proofs.Common.{inl, sym, ◌∙◌, ap, subst, reverse, append-nil, append_assoc}
 use Rattle.std.proofs.Math.Seq.{take-length}
@@ -34,7 +34,8 @@ LeftBy Synced was c = ⊥
 abbrev pub MayLeave : List Entry → ℕ → List ℕ → Type 0
 MayLeave [] f c = c ≡ []
 MayLeave (x ∷ older) f c =
-    Chosen (x.file == f) ((c ≡ done_by x.act (content_of older f)) ⊎ LeftBy x.act (MayLeave older f) c) (MayLeave older f c)
+    Chosen (x.file == f) ((c ≡ done_by x.act (content_of older f)) ⊎ LeftBy x.act (MayLeave older f) c)
+    (MayLeave older f c)
 
 -- The same of a record whose newest call stands last.
 
@@ -60,16 +61,22 @@ pub extends_same : (xs : List Entry) → Extends xs xs
 extends_same xs = ([], sym (append-nil xs))
 
 pub extends_then : (xs ys zs : List Entry) → Extends xs ys → Extends ys zs → Extends xs zs
-extends_then xs ys zs first second = (first.0 ++ second.0, second.1 ∙ ap (λ l. l ++ second.0) first.1 ∙ append_assoc xs first.0 second.0)
+extends_then xs ys zs first second =
+    (first.0 ++ second.0, second.1 ∙ ap (λ l. l ++ second.0) first.1 ∙ append_assoc xs first.0 second.0)
 
-chosen_read : (b : Bool) (x y : List ℕ) (L B : List ℕ → Type 0) → B y → Chosen b ((cond b x y ≡ x) ⊎ L (cond b x y)) (B (cond b x y))
+chosen_read : (b : Bool) (x y : List ℕ) (L B : List ℕ → Type 0) → B y
+    → Chosen b ((cond b x y ≡ x) ⊎ L (cond b x y)) (B (cond b x y))
 chosen_read true x y L B old = inl refl
 chosen_read false x y L B old = old
 
 -- what a read gives is among them
 content_may_be_left : (xs : List Entry) (f : ℕ) → MayLeave xs f (content_of xs f)
 content_may_be_left [] f = refl
-content_may_be_left (x ∷ older) f = chosen_read (x.file == f) (done_by x.act (content_of older f)) (content_of older f) (LeftBy x.act (MayLeave older f)) (MayLeave older f) (content_may_be_left older f)
+content_may_be_left (x ∷ older) f =
+    chosen_read (x.file == f) (done_by x.act (content_of older f)) (content_of older f)
+    (LeftBy x.act (MayLeave older f)) (MayLeave older f) (content_may_be_left older f)
 
 pub seen_may_be_left : (xs : List Entry) (f : ℕ) → images_of xs (length xs) f (seen_of xs f)
-seen_may_be_left xs f = subst (λ (l : List Entry). MayLeave (reverse l) f (seen_of xs f)) (sym (take-length xs)) (content_may_be_left (reverse xs) f)
+seen_may_be_left xs f =
+    subst (λ (l : List Entry). MayLeave (reverse l) f (seen_of xs f)) (sym (take-length xs))
+    (content_may_be_left (reverse xs) f)

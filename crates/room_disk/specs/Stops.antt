@@ -37,7 +37,8 @@ pub record Settles (file : ℕ) (change : Stop → List ℕ → List ℕ) (old n
   pub others : (how : Stop) (f : ℕ) → (f ≡ file → ⊥) → new how f ≡ old how f
 
 -- a call that was done, or was the stop, is held back
-abbrev pub Holds : {D T : Type 0} → (D → Bool) → (D → Left) → ℕ → (Stop → List ℕ → List ℕ) → D → D → Result T DiskFault → Type 0
+abbrev pub Holds : {D T : Type 0} → (D → Bool) → (D → Left) → ℕ → (Stop → List ℕ → List ℕ) → D → D → Result T DiskFault
+    → Type 0
 Holds stopped leaves file change old new result =
     stopped old ≡ false → IsDone result (stopped new) → Settles file change (leaves old) (leaves new)
 
@@ -48,8 +49,8 @@ pub record Passes {D T : Type 0} (seen : D → Reads) (stopped : D → Bool) (le
   pub others : OnOk result ((how : Stop) (f : ℕ) → (f ≡ file → ⊥) → leaves new how f ≡ leaves old how f)
   pub at_stop : stopped old ≡ false → stopped new ≡ true → (how : Stop) (f : ℕ) → leaves new how f ≡ leaves old how f
 
--- The call that is the stop answers `Failed`, and the clock counts it. Behind it every call answers `Failed`, and what the
--- stop leaves stays.
+-- The call that is the stop answers `Failed`, and the clock counts it. Behind it every call answers `Failed`, and
+-- what the stop leaves stays.
 pub record MeetsStop {D T : Type 0} (moment : D → ℕ) (stopped : D → Bool) (leaves : D → Left)
     (old new : D) (result : Result T DiskFault) : Type 0 where
   pub fails : stopped new ≡ true → IsErrOf result Failed
@@ -58,7 +59,8 @@ pub record MeetsStop {D T : Type 0} (moment : D → ℕ) (stopped : D → Bool) 
   pub left : stopped old ≡ true → (how : Stop) (f : ℕ) → leaves new how f ≡ leaves old how f
 
 -- nothing has changed but counts of faults
-pub record Stays {D : Type 0} (seen : D → Reads) (moment : D → ℕ) (images : D → Images) (stopped : D → Bool) (leaves : D → Left)
+pub record Stays {D : Type 0} (seen : D → Reads) (moment : D → ℕ) (images : D → Images) (stopped : D → Bool)
+    (leaves : D → Left)
     (old new : D) : Type 0 where
   pub files : StaysBetween (moment old) (moment new) (images old) (images new) (seen old) (seen new)
   pub stop : stopped new ≡ stopped old

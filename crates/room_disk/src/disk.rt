@@ -1,9 +1,12 @@
 //! A disk of numbered files, as its callers see it, and what a stop may leave of it.
-ghost use Rattle.std.specs.Prelude.{◌≡◌, ◌≤◌, ◌<◌, ◌^◌, ◌+◌, List, ℕ, Bool, true, false, length, take, drop, IfOk, OnOk};
+ghost use Rattle.std.specs.Prelude.{◌≡◌, ◌≤◌, ◌<◌, ◌^◌, ◌+◌, List, ℕ, Bool};
+ghost use Rattle.std.specs.Prelude.{true, false, length, take, drop, IfOk, OnOk};
 ghost use Rattle.room_disk.specs.declared.disk.DiskFault.TheVariants.{Memory};
 ghost use Rattle.room_disk.specs.Model.{written, WrittenInPart, CutInPart, Same, Only, Steps};
 
 use std::alloc::{AllocError, AllocFailed};
+use std::error::Error;
+use std::fmt;
 
 /// How a stop is settled: without what was held back, with it, or with each of its bytes replaced by 255.
 #[derive(Clone, Copy, Debug, PartialEq, Eq)]
@@ -21,6 +24,17 @@ pub enum DiskFault {
     /// The count of faults rose.
     Failed,
 }
+
+impl fmt::Display for DiskFault {
+    fn fmt<W: fmt::Write>(&self, f: &mut fmt::Formatter<W>) -> fmt::Result {
+        match self {
+            DiskFault::Memory => f.write_str("out of memory, or past the bound of a file"),
+            DiskFault::Failed => f.write_str("the disk failed"),
+        }
+    }
+}
+
+impl Error for DiskFault {}
 
 impl From<AllocError> for DiskFault {
     ghost from_gives = { λ _ e. e ≡ Memory };

@@ -1,5 +1,6 @@
 //! Files in memory, with a record of the calls on them from which contracts see what a stop leaves.
-ghost use Rattle.std.specs.Prelude.{◌≡◌, ◌≤◌, ◌<◌, ◌+◌, ◌^◌, ◌++◌, ◌∷◌, [], ℕ, length, take, drop, reverse, OnOk, OnErr, IfErr, vec_len, vec_capacity};
+ghost use Rattle.std.specs.Prelude.{◌≡◌, ◌≤◌, ◌<◌, ◌+◌, ◌^◌, ◌++◌, ◌∷◌, [], ℕ};
+ghost use Rattle.std.specs.Prelude.{length, take, drop, reverse, OnOk, OnErr, IfErr, vec_len, vec_capacity};
 ghost use Rattle.room_disk.specs.Model.{written, WrittenInPart, Same};
 ghost use Rattle.room_disk.specs.Changes.{changed, ChangedInPart, place, reach};
 ghost use Rattle.room_disk.specs.Files.{content_in, small_prop};

@@ -1,10 +1,12 @@
 //! A disk in memory, some of whose calls fail.
-ghost use Rattle.std.specs.Prelude.{◌≡◌, [], ℕ, List, true, false, length, take, drop, ◌<◌, ◌≤◌, ◌+◌, ◌^◌, IfOk, OnOk, IfErr};
+ghost use Rattle.std.specs.Prelude.{◌≡◌, [], ℕ, List, true, false, length, take};
+ghost use Rattle.std.specs.Prelude.{drop, ◌<◌, ◌≤◌, ◌+◌, ◌^◌, IfOk, OnOk, IfErr};
 ghost use Rattle.room_edge.specs.Memory.{no_calls, is_to_fail};
 ghost use Rattle.room_disk.specs.Failing.{lifted, Counts};
 ghost use Rattle.room_disk.specs.Model.{written, WrittenInPart, CutInPart, Same};
 ghost use Rattle.room_disk.specs.Files.{small_seen};
-ghost use Rattle.room_disk.specs.Record.{seen_of, images_of, StepsTo, OnlySeen, Extends, extends_same, extends_then, seen_may_be_left};
+ghost use Rattle.room_disk.specs.Record.{seen_of, images_of, StepsTo, OnlySeen};
+ghost use Rattle.room_disk.specs.Record.{Extends, extends_same, extends_then, seen_may_be_left};
 
 use crate::change::FileChange;
 use crate::disk::{Disk, DiskFault};

@@ -1,3 +1,4 @@
+//! Disks in memory, call by call.
 use super::*;
 use std::alloc::Global;
 use std::test::Fail;

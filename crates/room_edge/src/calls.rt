@@ -1,3 +1,4 @@
+//! The calls of an object in memory, some of which fail.
 ghost use Rattle.std.specs.Prelude.{◌≡◌, ◌≤◌, true};
 ghost use Rattle.room_edge.specs.Causes.{Rose};
 ghost use Rattle.room_edge.specs.Memory.{is_among, no_calls, is_to_fail, called};

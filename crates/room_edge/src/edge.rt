@@ -1,12 +1,24 @@
+//! Where bytes come from, and where they go.
 ghost use Rattle.std.specs.Prelude.{◌≡◌, ℕ, List, ◌<◌, ◌≤◌, length, IfOk, IfErr};
 ghost use Rattle.std.specs.declared.option.Option.{Option};
 ghost use Rattle.std.specs.Io.{ReadsAtMost, WritesAtMost};
 ghost use Rattle.std.specs.Io.KnownBytes.{ReadConsumes, WriteAppends};
 ghost use Rattle.room_edge.specs.Causes.{HasCause, Rose};
 
+use std::error::Error;
+use std::fmt;
+
 /// A call that failed: the count of faults rose.
 #[derive(Clone, Copy, Debug, PartialEq, Eq)]
 pub struct Failed;
+
+impl fmt::Display for Failed {
+    fn fmt<W: fmt::Write>(&self, f: &mut fmt::Formatter<W>) -> fmt::Result {
+        f.write_str("the call failed")
+    }
+}
+
+impl Error for Failed {}
 
 /// Why a piece was not written.
 #[derive(Clone, Copy, Debug, PartialEq, Eq)]
@@ -16,6 +28,17 @@ pub enum SinkFault {
     /// The count of faults rose.
     Failed,
 }
+
+impl fmt::Display for SinkFault {
+    fn fmt<W: fmt::Write>(&self, f: &mut fmt::Formatter<W>) -> fmt::Result {
+        match self {
+            SinkFault::Memory => f.write_str("out of memory"),
+            SinkFault::Failed => f.write_str("the write failed"),
+        }
+    }
+}
+
+impl Error for SinkFault {}
 
 /// Where bytes come from.
 pub trait Source {

@@ -1,3 +1,4 @@
+//! Sources and sinks, call by call.
 use super::*;
 use room_json::Bytes;
 use std::test::Fail;

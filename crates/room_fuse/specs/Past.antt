@@ -36,11 +36,13 @@ images_at images moment past inner held m = LeftNow images moment (inner_at past
 abbrev pub StepsThrough : {D : Type 0} → (D → Reads) → (D → ℕ) → (D → Images) → ℕ → (List ℕ → List ℕ → Type 0)
     → List (Mark D) → D → List Held → List (Mark D) → D → List Held → Type 0
 StepsThrough seen moment images file step past inner held ps later after =
-    StepsBetween file step (length past) (length ps) (images_at images moment past inner held) (images_at images moment ps later after)
+    StepsBetween file step (length past) (length ps) (images_at images moment past inner held)
+    (images_at images moment ps later after)
     (through seen inner held) (through seen later after)
 
 -- one moment more
-pub record IsMarked {D : Type 0} (old : List (Mark D)) (inner : D) (held : List Held) (new : List (Mark D)) : Type 0 where
+pub record IsMarked {D : Type 0} (old : List (Mark D)) (inner : D) (held : List Held)
+    (new : List (Mark D)) : Type 0 where
   pub added : Mark D
   pub inner_is : added.inner.value ≡ inner
   pub held_is : added.held.value.items ≡ held

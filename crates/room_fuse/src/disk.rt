@@ -2,7 +2,8 @@
 ghost use Rattle.std.specs.Prelude.{◌≡◌, ◌+◌, ◌^◌, ◌≤◌, ℕ, List, length, reverse, true};
 ghost use Rattle.room_fuse.specs.Past.{through, left_through, images_at};
 ghost use Rattle.room_fuse.specs.Mirrors.{CountsDownBetween};
-ghost use Rattle.room_fuse.specs.Laws.{content_below, below_reverse, content_now, settled_now, counts_same, counts_then, MirroredTo, mirrored_same, mirrored_then};
+ghost use Rattle.room_fuse.specs.Laws.{content_below, below_reverse, content_now, settled_now, counts_same};
+ghost use Rattle.room_fuse.specs.Laws.{counts_then, MirroredTo, mirrored_same, mirrored_then};
 
 use crate::fuse::{Fused, admit, count_down};
 use crate::load::{length_of, read_over};

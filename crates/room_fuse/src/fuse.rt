@@ -1,5 +1,6 @@
 //! A disk that holds writes and cuts back from an inner disk, and stops at a call.
-ghost use Rattle.std.specs.Prelude.{◌≡◌, ◌≤◌, ◌<◌, ◌+◌, ◌-◌, ◌^◌, ◌++◌, ◌∷◌, [], ℕ, length, reverse, OnOk, OnErr, IfErr, IsErrOf, true, false, vec_len, vec_capacity};
+ghost use Rattle.std.specs.Prelude.{◌≡◌, ◌≤◌, ◌<◌, ◌+◌, ◌-◌, ◌^◌, ◌++◌, ◌∷◌, [], ℕ};
+ghost use Rattle.std.specs.Prelude.{length, reverse, OnOk, OnErr, IfErr, IsErrOf, true, false, vec_len, vec_capacity};
 ghost use Rattle.room_edge.specs.Causes.{Rose};
 ghost use Rattle.room_disk.specs.Changes.{changed, ChangedInPart, place, reach};
 ghost use Rattle.room_disk.specs.Stops.{IsDone, Settles};
@@ -25,7 +26,8 @@ pub struct Fused<D: Disk> {
     pub(crate) how: Stop,
     pub(crate) fired: bool,
     pub(crate) refused: u64,
-    ghost fits: { D.tells ≡ true → Fits (D.seen inner) (reverse held.items) } by { told_fits_prop D.tells (D.seen inner) (reverse held.items) },
+    ghost fits: { D.tells ≡ true → Fits (D.seen inner) (reverse held.items) } by { told_fits_prop D.tells
+        (D.seen inner) (reverse held.items) },
     ghost below: { StaysBelow held.items } by { below_prop held.items },
 }
 

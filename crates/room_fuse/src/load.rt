@@ -1,5 +1,6 @@
 //! A file as it reads through what is held back of it.
-ghost use Rattle.std.specs.Prelude.{◌≡◌, ◌≤◌, ◌<◌, ◌+◌, ◌^◌, ℕ, List, length, take, drop, reverse, OnOk, OnErr, IfOk, IfErr, IsTrue, true};
+ghost use Rattle.std.specs.Prelude.{◌≡◌, ◌≤◌, ◌<◌, ◌+◌, ◌^◌, ℕ, List, length, take};
+ghost use Rattle.std.specs.Prelude.{drop, reverse, OnOk, OnErr, IfOk, IfErr, IsTrue, true};
 ghost use Rattle.room_disk.specs.Causes.{HasCause};
 ghost use Rattle.room_disk.specs.Stops.{Stays};
 ghost use Rattle.room_fuse.specs.Held.{applied, StaysBelow, Others};

@@ -1,5 +1,6 @@
 //! Passing what is held back to the inner disk.
-ghost use Rattle.std.specs.Prelude.{◌≡◌, ◌≤◌, ◌<◌, ◌+◌, [], ℕ, List, length, OnOk, IfOk, IsTrue, IsFalse, true, reverse};
+ghost use Rattle.std.specs.Prelude.{◌≡◌, ◌≤◌, ◌<◌, ◌+◌, [], ℕ, List};
+ghost use Rattle.std.specs.Prelude.{length, OnOk, IfOk, IsTrue, IsFalse, true, reverse};
 ghost use Rattle.room_disk.specs.Model.{Steps, Only};
 ghost use Rattle.room_disk.specs.Changes.{changed, ChangedInPart, place};
 ghost use Rattle.room_disk.specs.Causes.{HasCause};

@@ -1,3 +1,4 @@
+//! A fuse at each call, in each way to stop.
 ghost use Rattle.std.specs.Prelude.{◌≤◌};
 
 use super::*;

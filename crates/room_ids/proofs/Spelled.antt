@@ -141,6 +141,8 @@ pub made_again : (s : Stamp) → stamp_in (stamp_text s) ≡ Some s → node_in 
 unfolding node_in node_text
 made_again s e = rw (not_root (stamp_text s) s _ refl e, e) refl
 
+pub ruleset nodes_again = (root_again, made_again)
+
 pub node_again : NodesReadBack
 node_again Root h = root_again
 node_again (Made s) h = made_again s (stamp_again s h)

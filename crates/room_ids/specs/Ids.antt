@@ -1,8 +1,11 @@
 -- Texts of ids: `actor:clock`, or `root` for the root.
-use Rattle.std.specs.Prelude.{ℕ, Bool, false, ◌&&◌, not, if◌then◌else◌, nat_eq, nat_le, List, [], ◌∷◌, ◌++◌, codes, Option, Some, None, option_map, option_and_then}
+use Rattle.std.specs.Prelude.{ℕ, Bool, false, ◌&&◌, not, if◌then◌else◌, nat_eq, nat_le, List, [], ◌∷◌, ◌++◌, codes}
+use Rattle.std.specs.Prelude.{Option, Some, None, option_map, option_and_then}
 use Rattle.std.specs.Fmt.{decimal}
 use Rattle.std.specs.Str.{all_ascii_digits, bytes_eq}
 use Rattle.std.specs.Str.Parse.{digits_value}
+use Rattle.room_json.specs.Limits.{max_whole}
+use Rattle.room_ids.specs.Bounds.{max_actor}
 use Rattle.room_ids.specs.Stamp.{Stamp}
 use Rattle.room_ids.specs.Position.{is_some_text}
 use Rattle.room_ids.specs.declared.ids.OpId.{OpId}
@@ -26,7 +29,7 @@ parts_of (c ∷ cs) = if nat_eq c 58 then Some ([], cs) else option_map (λ p. (
 abbrev pub stamp_of_parts : List ℕ × List ℕ → Option Stamp
 stamp_of_parts p =
     option_and_then (λ a.
-    option_map (λ c. record { actor = a; clock = c }) (number_in 9007199254740991 p.1)) (number_in 4294967295 p.0)
+    option_map (λ c. record { actor = a; clock = c }) (number_in max_whole p.1)) (number_in max_actor p.0)
 
 -- the stamp that a text spells
 unfoldable pub stamp_in : List ℕ → Option Stamp

@@ -1,5 +1,7 @@
 -- What holds of ids and positions by their definitions.
 use Rattle.std.specs.Prelude.{◌≡◌, ◌≤◌, ◌<◌, ◌++◌, ℕ, true, List, [], ◌∷◌, length, replicate, Option, Some, IfSome, ⊤}
+use Rattle.room_json.specs.Limits.{max_whole}
+use Rattle.room_ids.specs.Bounds.{max_actor, max_position}
 use Rattle.room_ids.specs.Stamp.{Stamp}
 use Rattle.room_ids.specs.Ids.{number_in, stamp_in, node_in, stamp_text, node_text}
 use Rattle.room_ids.specs.Position.{IsBelow, is_pos, first, after, before, between}
@@ -9,7 +11,7 @@ use Rattle.std.specs.Fmt.{decimal}
 
 -- an actor below 2^32 and a clock of at most 2^53-1
 abbrev pub IsInRange : Stamp → Type 0
-IsInRange s = (s.actor ≤ 4294967295) × (s.clock ≤ 9007199254740991)
+IsInRange s = (s.actor ≤ max_actor) × (s.clock ≤ max_whole)
 
 abbrev pub IsNodeInRange : NodeId → Type 0
 IsNodeInRange Root = ⊤
@@ -17,7 +19,7 @@ IsNodeInRange (Made s) = IsInRange s
 
 -- a number that was written is read again
 abbrev pub NumbersReadBack : Type 0
-NumbersReadBack = (most n : ℕ) → n ≤ most → n ≤ 9007199254740991 → number_in most (decimal n) ≡ Some n
+NumbersReadBack = (most n : ℕ) → n ≤ most → n ≤ max_whole → number_in most (decimal n) ≡ Some n
 
 -- an id that was written is read again
 abbrev pub StampsReadBack : Type 0
@@ -53,7 +55,7 @@ BetweenIsBetween = (x : List ℕ) (y : Option (List ℕ)) → IsPair x y → IsB
 
 -- a made text is a position, unless it is too long
 abbrev pub IsPosUnlessLong : List ℕ → Type 0
-IsPosUnlessLong x = length x ≤ 4096 → is_pos x ≡ true
+IsPosUnlessLong x = length x ≤ max_position → is_pos x ≡ true
 
 abbrev pub MadeArePositions : Type 0
 MadeArePositions =
@@ -65,8 +67,10 @@ MadeArePositions =
 abbrev pub MadeAreShort : Type 0
 MadeAreShort =
     (x : List ℕ) → is_pos x ≡ true →
-    (length (after x) ≤ 4097) × (length (before x) ≤ 4097) × ((y : Option (List ℕ)) → IsPair x y → length (between x y) ≤ 4097)
+    (length (after x) ≤ 4097)
+    × (length (before x) ≤ 4097)
+    × ((y : Option (List ℕ)) → IsPair x y → length (between x y) ≤ 4097)
 
 -- there is one position before which there is none of those made: 4,095 spaces and `!`
 abbrev pub LowestIsLast : Type 0
-LowestIsLast = (x : List ℕ) → is_pos x ≡ true → 4096 < length (before x) → x ≡ replicate 4095 32 ++ 33 ∷ []
+LowestIsLast = (x : List ℕ) → is_pos x ≡ true → max_position < length (before x) → x ≡ replicate 4095 32 ++ 33 ∷ []

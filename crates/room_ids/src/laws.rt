@@ -1,4 +1,8 @@
-ghost use Rattle.room_ids.specs.Laws.{NumbersReadBack, StampsReadBack, NodesReadBack, StampsAreSpelledOnce, NodesAreSpelledOnce, AfterIsAbove, BeforeIsBelow, BetweenIsBetween, MadeArePositions, MadeAreShort, LowestIsLast};
+//! What follows from the definitions alone.
+ghost use Rattle.room_ids.specs.Laws.{NumbersReadBack, StampsReadBack, NodesReadBack};
+ghost use Rattle.room_ids.specs.Laws.{StampsAreSpelledOnce, NodesAreSpelledOnce};
+ghost use Rattle.room_ids.specs.Laws.{AfterIsAbove, BeforeIsBelow, BetweenIsBetween};
+ghost use Rattle.room_ids.specs.Laws.{MadeArePositions, MadeAreShort, LowestIsLast};
 
 /// What is read of a written number or id is that number or id.
 pub fn ids_read_back()

@@ -12,8 +12,8 @@ mod spelling;
 #[cfg(test)]
 mod tests;
 
-pub use ids::{NodeId, OpId, Stamp};
+pub use ids::{MAX_ACTOR, NodeId, OpId, Stamp};
 pub use laws::{ids_are_spelled_once, ids_read_back, positions_are_made, positions_are_ordered};
 pub use numerals::{push_number, read_number};
 pub use order::{compare, compare_ops, same_id, same_op};
-pub use places::{Pos, PosFault, after, before, between, compare_places, first};
+pub use places::{MAX_POSITION, Pos, PosFault, after, before, between, compare_places, first};

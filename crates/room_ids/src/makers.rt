@@ -1,3 +1,4 @@
+//! The bytes of made positions.
 ghost use Rattle.std.specs.Prelude.{◌≡◌, ◌++◌, ◌∷◌, [], OnOk};
 ghost use Rattle.room_ids.specs.Position.{above, amid, after, before};
 

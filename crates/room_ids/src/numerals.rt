@@ -1,5 +1,9 @@
-ghost use Rattle.std.specs.Prelude.{◌≡◌, ◌≤◌, ◌++◌, OnOk, OnErr, IfSome};
+//! Numbers in decimal digits.
+ghost use Rattle.std.specs.Prelude.{◌≡◌, ◌≤◌, ◌++◌, OnOk, OnErr, IfSome, Some, None, true, if◌then◌else◌, nat_le};
 ghost use Rattle.std.specs.Fmt.{decimal};
+ghost use Rattle.std.specs.Str.{all_ascii_digits};
+ghost use Rattle.std.specs.Str.Parse.{digits_value};
+ghost use Rattle.room_json.specs.Limits.{max_whole};
 ghost use Rattle.room_ids.specs.Ids.{is_number, number_in};
 
 use room_json::{NoMemory, Text};
@@ -15,8 +19,6 @@ fn is_numeral(t: &[u8]) -> bool
     }
 }
 
-ghost use Rattle.std.specs.Str.{all_ascii_digits};
-
 fn are_digits(t: &[u8]) -> bool
     ensures { result ≡ all_ascii_digits t.now }
 {
@@ -31,7 +33,7 @@ fn are_digits(t: &[u8]) -> bool
 /// The number that decimal digits without a leading zero write, unless it is over `most`.
 #[tactic(auto, unfolding(crate::specs::Ids::number_in))]
 pub fn read_number(t: &[u8], most: u64) -> Option<u64>
-    requires { most ≤ 9007199254740991 }
+    requires { most ≤ max_whole }
     ensures value { result ≡ number_in most t.now }
     ensures bound { IfSome result (λ n. n ≤ most) }
 {
@@ -42,13 +44,10 @@ pub fn read_number(t: &[u8], most: u64) -> Option<u64>
     }
 }
 
-ghost use Rattle.std.specs.Prelude.{true, if◌then◌else◌, nat_le, Some, None};
-ghost use Rattle.std.specs.Str.Parse.{digits_value};
-
 /// The number that digits write, unless it is over `most`.
 fn value_up_to(t: &[u8], most: u64) -> Option<u64>
     requires digits { all_ascii_digits t.now ≡ true }
-    requires small { most ≤ 9007199254740991 }
+    requires small { most ≤ max_whole }
     ensures bound { IfSome result (λ n. n ≤ most) }
     ensures value { result ≡ (if nat_le (digits_value 10 t.now) most then Some (digits_value 10 t.now) else None) }
 {

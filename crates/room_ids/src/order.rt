@@ -1,3 +1,4 @@
+//! The order of ids.
 ghost use Rattle.std.specs.Prelude.{◌≡◌};
 ghost use Rattle.room_ids.specs.Order.{node_cmp, is_same, stamp_cmp, is_same_stamp};
 

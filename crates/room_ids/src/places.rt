@@ -1,16 +1,25 @@
-ghost use Rattle.std.specs.Prelude.{◌≡◌, ◌<◌, ◌↔◌, ℕ, IfOk, IfErr, IfSome, IsSome, length, true};
+//! Positions in lists.
+ghost use Rattle.std.specs.Prelude.{◌≡◌, ◌↔◌, Some, None, IfOk, IfErr, IfSome, IsSome, true};
 ghost use Rattle.std.specs.Ordering.{nat_cmp};
 ghost use Rattle.std.specs.Cmp.Lexicographic.{slice_cmp};
 ghost use Rattle.std.specs.Option.{option_copied};
-ghost use Rattle.room_ids.specs.Position.{IsBelow, is_pos, is_some_text, is_spelled, first as first_of, after as after_of, before as before_of, between as between_of};
+ghost use Rattle.room_ids.specs.Position.{IsBelow, is_pos, is_some_text, is_spelled, SaysHowLong};
+ghost use Rattle.room_ids.specs.Position.{first as first_of, after as after_of, before as before_of};
+ghost use Rattle.room_ids.specs.Position.{between as between_of};
 
 use crate::makers::{push_above, push_after, push_amid, push_before};
 use room_json::{Copied, NoMemory, Text};
 use std::alloc::Global;
 use std::cmp::Ordering;
+use std::error::Error;
+use std::fmt;
 use std::marker::Model;
 
-/// A position among the children of a list: a text of 1 to 4,096 bytes, each from 32 to 126, of which the last is no space.
+/// How many bytes a position has at most.
+pub const MAX_POSITION: usize = 4096;
+
+/// A position among the children of a list: a text of 1 to 4,096 bytes, each from 32 to 126, of which the last is no
+/// space.
 #[derive(Drop)]
 pub struct Pos {
     text: Text,
@@ -30,16 +39,39 @@ impl Model for Pos {
 /// Why no position was made.
 #[derive(Clone, Copy, Debug, PartialEq, Eq)]
 pub enum PosFault {
+    /// Out of memory.
     Memory,
     /// The made text has so many bytes, over 4,096.
     TooLong(u64),
+}
+
+impl fmt::Display for PosFault {
+    fn fmt<W: fmt::Write>(&self, f: &mut fmt::Formatter<W>) -> fmt::Result {
+        match self {
+            PosFault::Memory => f.write_str("out of memory"),
+            PosFault::TooLong(bytes) => write!(f, "position too long ({bytes} bytes)"),
+        }
+    }
+}
+
+impl Error for PosFault {}
+
+impl From<NoMemory> for PosFault {
+    ghost use Rattle.std.specs.Prelude.{◌≡◌};
+    ghost use Rattle.room_ids.specs.declared.places.PosFault.TheVariants.{Memory};
+
+    ghost from_gives = { λ _ e. e ≡ Memory };
+
+    fn from(_error: NoMemory) -> PosFault {
+        PosFault::Memory
+    }
 }
 
 /// Whether the bytes are a position.
 pub fn is_position(t: &[u8]) -> bool
     ensures { result ≡ is_pos t.now }
 {
-    !t.is_empty() && t.len() <= 4096 && are_spelled(t)
+    !t.is_empty() && t.len() <= MAX_POSITION && are_spelled(t)
 }
 
 fn are_spelled(t: &[u8]) -> bool
@@ -102,15 +134,13 @@ pub fn compare_places(a: &Pos, b: &Pos) -> Ordering
 fn position(alloc: Global, made: &[u8]) -> Result<Pos, PosFault>
     requires { (is_some_text made.now ≡ true) × (is_spelled made.now ≡ true) }
     ensures ok { IfOk result (λ p. p ≡ made.now) }
-    ensures err { IfErr result (λ e. (n : ℕ) → e ≡ PosFault.TooLong n → (n ≡ length made.now) × (4096 < n)) }
+    ensures err { IfErr result (SaysHowLong made.now) }
 {
-    if made.len() > 4096 {
+    if made.len() > MAX_POSITION {
         return Err(PosFault::TooLong(made.len() as u64));
     }
-    match text_of(alloc, made) {
-        Ok(text) => Ok(Pos { text }),
-        Err(NoMemory) => Err(PosFault::Memory),
-    }
+    let text = text_of(alloc, made)?;
+    Ok(Pos { text })
 }
 
 /// The text of characters, which are all ASCII.
@@ -144,12 +174,10 @@ fn bytes_after(alloc: Global, x: &[u8]) -> Result<Vec<u8>, NoMemory>
 pub fn after(alloc: Global, x: &Pos) -> Result<Pos, PosFault>
     ensures ok { IfOk result (λ p. p ≡ after_of x.now) }
     ensures position { IfOk result (λ p. is_pos p ≡ true) }
-    ensures err { IfErr result (λ e. (n : ℕ) → e ≡ PosFault.TooLong n → (n ≡ length (after_of x.now)) × (4096 < n)) }
+    ensures err { IfErr result (SaysHowLong (after_of x.now)) }
 {
-    match bytes_after(alloc, x.text.as_bytes()) {
-        Ok(made) => position(alloc, made.as_slice()),
-        Err(NoMemory) => Err(PosFault::Memory),
-    }
+    let made = bytes_after(alloc, x.text.as_bytes())?;
+    position(alloc, made.as_slice())
 }
 
 fn bytes_before(alloc: Global, x: &[u8]) -> Result<Vec<u8>, NoMemory>
@@ -164,15 +192,11 @@ fn bytes_before(alloc: Global, x: &[u8]) -> Result<Vec<u8>, NoMemory>
 pub fn before(alloc: Global, x: &Pos) -> Result<Pos, PosFault>
     ensures ok { IfOk result (λ p. p ≡ before_of x.now) }
     ensures position { IfOk result (λ p. is_pos p ≡ true) }
-    ensures err { IfErr result (λ e. (n : ℕ) → e ≡ PosFault.TooLong n → (n ≡ length (before_of x.now)) × (4096 < n)) }
+    ensures err { IfErr result (SaysHowLong (before_of x.now)) }
 {
-    match bytes_before(alloc, x.text.as_bytes()) {
-        Ok(made) => position(alloc, made.as_slice()),
-        Err(NoMemory) => Err(PosFault::Memory),
-    }
+    let made = bytes_before(alloc, x.text.as_bytes())?;
+    position(alloc, made.as_slice())
 }
-
-ghost use Rattle.std.specs.Prelude.{Some, None};
 
 fn bytes_between(alloc: Global, x: &[u8], y: &[u8]) -> Result<Vec<u8>, NoMemory>
     ensures { IfOk result (λ v. v.items ≡ between_of x.now (Some y.now)) }
@@ -193,22 +217,18 @@ fn bytes_above(alloc: Global, x: &[u8]) -> Result<Vec<u8>, NoMemory>
 fn between_two(alloc: Global, x: &Pos, y: &Pos) -> Result<Pos, PosFault>
     requires { IsBelow x.now y.now }
     ensures ok { IfOk result (λ p. p ≡ between_of x.now (Some y.now)) }
-    ensures err { IfErr result (λ e. (n : ℕ) → e ≡ PosFault.TooLong n → (n ≡ length (between_of x.now (Some y.now))) × (4096 < n)) }
+    ensures err { IfErr result (SaysHowLong (between_of x.now (Some y.now))) }
 {
-    match bytes_between(alloc, x.text.as_bytes(), y.text.as_bytes()) {
-        Ok(made) => position(alloc, made.as_slice()),
-        Err(NoMemory) => Err(PosFault::Memory),
-    }
+    let made = bytes_between(alloc, x.text.as_bytes(), y.text.as_bytes())?;
+    position(alloc, made.as_slice())
 }
 
 fn between_last(alloc: Global, x: &Pos) -> Result<Pos, PosFault>
     ensures ok { IfOk result (λ p. p ≡ between_of x.now None) }
-    ensures err { IfErr result (λ e. (n : ℕ) → e ≡ PosFault.TooLong n → (n ≡ length (between_of x.now None)) × (4096 < n)) }
+    ensures err { IfErr result (SaysHowLong (between_of x.now None)) }
 {
-    match bytes_above(alloc, x.text.as_bytes()) {
-        Ok(made) => position(alloc, made.as_slice()),
-        Err(NoMemory) => Err(PosFault::Memory),
-    }
+    let made = bytes_above(alloc, x.text.as_bytes())?;
+    position(alloc, made.as_slice())
 }
 
 /// A position between x and y, or after x where y is absent.
@@ -216,7 +236,7 @@ pub fn between(alloc: Global, x: &Pos, y: Option<&Pos>) -> Result<Pos, PosFault>
     requires { IfSome (option_copied y) (λ b. IsBelow x.now b) }
     ensures ok { IfOk result (λ p. p ≡ between_of x.now (option_copied y.entry)) }
     ensures position { IfOk result (λ p. is_pos p ≡ true) }
-    ensures err { IfErr result (λ e. (n : ℕ) → e ≡ PosFault.TooLong n → (n ≡ length (between_of x.now (option_copied y.entry))) × (4096 < n)) }
+    ensures err { IfErr result (SaysHowLong (between_of x.now (option_copied y.entry))) }
 {
     match y {
         Some(y) => between_two(alloc, x, y),

@@ -1,10 +1,10 @@
-ghost use Rattle.std.specs.Prelude.{◌≡◌, IfOk, Some};
+//! The texts of ids.
+ghost use Rattle.std.specs.Prelude.{◌≡◌, IfOk, Some, option_map};
 ghost use Rattle.room_ids.specs.Ids.{parts_of, stamp_of_parts, stamp_in, stamp_text, op_id_in, node_in, node_text};
-ghost use Rattle.std.specs.Prelude.{option_map};
 
-use crate::ids::{NodeId, OpId, Stamp};
+use crate::ids::{MAX_ACTOR, NodeId, OpId, Stamp};
 use crate::numerals::{push_number, read_number};
-use room_json::{NoMemory, Text};
+use room_json::{MAX_WHOLE, NoMemory, Text};
 use std::alloc::Global;
 
 /// What stands before the first colon, and what behind it.
@@ -23,8 +23,8 @@ fn parts(t: &[u8]) -> Option<(&[u8], &[u8])>
 fn stamp_of(actor: &[u8], clock: &[u8]) -> Option<Stamp>
     ensures { result ≡ stamp_of_parts (actor.now, clock.now) }
 {
-    let actor = u32::try_from(read_number(actor, 4_294_967_295)?).ok()?;
-    let clock = read_number(clock, 9_007_199_254_740_991)?;
+    let actor = u32::try_from(read_number(actor, u64::from(MAX_ACTOR))?).ok()?;
+    let clock = read_number(clock, MAX_WHOLE)?;
     Stamp::new(actor, clock)
 }
 
@@ -70,7 +70,7 @@ impl NodeId {
     }
 
     /// The text that spells the id.
-    #[tactic(auto, using(crate::proofs::Spelled::root_again, crate::proofs::Spelled::made_again), unfolding(crate::specs::Ids::node_text))]
+    #[tactic(auto, using(crate::proofs::Spelled::nodes_again), unfolding(crate::specs::Ids::node_text))]
     pub fn text(&self, alloc: Global) -> Result<Text, NoMemory>
         ensures text { IfOk result (λ t. t ≡ node_text self.now) }
         ensures again { node_in (node_text self.now) ≡ Some self.now }

@@ -9,9 +9,8 @@ use Rattle.room_ids.specs.declared.ids.NodeId.{NodeId}
 use Rattle.room_ids.specs.declared.ids.NodeId.TheVariants.{Root, Made}
 use Rattle.room_nodes.specs.declared.nodes.Kind.{Kind}
 use Rattle.room_nodes.specs.declared.nodes.Kind.TheVariants.{Object, List as Listed, Map, Register}
-use Rattle.room_items.specs.Items.{row_in, root_in}
+use Rattle.room_items.specs.Items.{item_there, row_in, root_in}
 use Rattle.room_items.specs.Laws.{NodesReadBack, RootReadsBack}
-use Rattle.room_items.specs.Rows.{item_there}
 
 made_again : (s : Stamp) (p : NodeId) (k : List ℕ) (d : ℕ) (kind : Kind) → node_in (node_text (Made s)) ≡ Some (Made s) → node_in (node_text p) ≡ Some p
     → row_in (item_there (Made s) (Some (record { parent = p; key = k; depth = d; kind = kind }))) ≡ Some (record { id = Made s; parent = p; key = k; kind = kind })

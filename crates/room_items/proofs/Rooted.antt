@@ -13,7 +13,8 @@ use Rattle.room_nodes.specs.declared.nodes.Kind.{Kind}
 use Rattle.room_nodes.specs.declared.nodes.Kind.TheVariants.{Object, List as Listed, Map, Register}
 use Rattle.room_nodes.proofs.Gets.{some_none, differ}
 use Rattle.room_ids.proofs.IdOrder.{node_cmp-total}
-use Rattle.room_items.specs.Items.{Row, row_id, root_of, tree_under, in_order, same_ids}
+use Rattle.room_items.specs.declared.row.Row.{Row}
+use Rattle.room_items.specs.Items.{row_id, root_of, tree_under, in_order, same_ids}
 use Rattle.room_nodes.specs.Preorder.{preorder}
 
 pub none_under : (kind : Kind) (rows : Option (List Row)) → is_object kind ≡ false → option_and_then (tree_under kind) rows ≡ None

@@ -13,8 +13,8 @@ use Rattle.room_nodes.proofs.Fitting.{the_parent}
 use Rattle.room_nodes.proofs.Gets.{some_none, one_or_two, same, get_here, get_other}
 use Rattle.room_nodes.proofs.Listing.{Has}
 use Rattle.room_nodes.proofs.Walks.{Walk, Step, rev_on}
-use Rattle.room_items.specs.Items.{Row, row_in, rows_in, row_node, put_row, put_rows, row_id, item_out}
-use Rattle.room_items.specs.Rows.{item_there}
+use Rattle.room_items.specs.declared.row.Row.{Row}
+use Rattle.room_items.specs.Items.{row_in, rows_in, row_node, put_row, put_rows, row_id, item_there, item_out}
 use Rattle.room_items.proofs.NodesAgain.{nodes_again}
 
 abbrev pub row_there : NodeId → Option Node → Row

@@ -24,9 +24,9 @@ use Rattle.room_nodes.specs.Sound.{IsSoundKind, IsSoundNode}
 use Rattle.room_nodes.specs.declared.nodes.Node.{Node}
 use Rattle.room_nodes.specs.declared.nodes.Kind.{Kind}
 use Rattle.room_nodes.specs.declared.nodes.Kind.TheVariants.{Object, List as Listed, Map, Register}
-use Rattle.room_items.specs.Items.{Row, as_node, pair_of, as_pair, kind_at, kind_in, root_in, row_in, rows_in, row_node, row_id, put_row, put_rows, in_order, root_of, same_ids, tree_in}
+use Rattle.room_items.specs.declared.row.Row.{Row}
+use Rattle.room_items.specs.Items.{as_node, pair_of, as_pair, kind_at, kind_in, root_in, row_in, rows_in, row_node, row_id, may_put, put_row, put_rows, in_order, root_of, same_ids, tree_in}
 use Rattle.room_items.specs.Laws.{TreesAreFormed, TreesAreSound, TreesAreShallow}
-use Rattle.room_items.specs.Rows.{may_put}
 use Rattle.room_items.proofs.Found.{Has, some_inj, and_then_of, map_of, text_is, members_is, list_is, json_of-json_in, has_json, has_depth, sound_members}
 use Rattle.room_items.proofs.MayPut.{free_of}
 

@@ -14,10 +14,10 @@ use Rattle.room_nodes.specs.declared.nodes.Kind.{Kind}
 use Rattle.room_nodes.proofs.Fitting.{the_root}
 use Rattle.room_nodes.proofs.Gets.{one_or_two, same_self, differ, some_none}
 use Rattle.room_nodes.proofs.Listing.{Has}
-use Rattle.room_items.specs.Items.{Row, row_id, root_in, root_of, put_rows, same_ids, tree_under, tree_in, items_of, item_out}
+use Rattle.room_items.specs.declared.row.Row.{Row}
+use Rattle.room_items.specs.Items.{row_id, root_in, root_of, put_rows, same_ids, tree_under, tree_in, items_of, item_there, item_out}
 use Rattle.room_items.specs.Laws.{AreInRange, TreesReadBack}
 use Rattle.room_nodes.specs.Preorder.{preorder, preorder_within}
-use Rattle.room_items.specs.Rows.{item_there}
 use Rattle.room_items.proofs.NodesAgain.{root_again}
 use Rattle.room_nodes.proofs.Tours.{tour_root, all_there}
 use Rattle.room_items.proofs.Rowing.{Part, row_at, row_ids, put_all, rows_again}

@@ -1,7 +1,10 @@
 -- The items of a state: [id, node], each node before those below it, children in byte order of their keys.
-use Rattle.std.specs.Prelude.{◌+◌, ◌++◌, ℕ, pos, negsuc, ℤ, Bool, true, false, ◌&&◌, not, if◌then◌else◌, nat_eq, is_some, List, [], ◌∷◌, map, codes, Option, Some, None, option_map, option_and_then}
+-- Written they are `items_of`, read `tree_in`: the root, then the rows, then the tree that they spell and its order.
+use Rattle.std.specs.Prelude.{◌+◌, ◌++◌, ℕ, pos, negsuc, ℤ, Bool, true, false, ◌&&◌, not, if◌then◌else◌, nat_eq}
+use Rattle.std.specs.Prelude.{List, [], ◌∷◌, map, codes, Option, Some, None, is_some, option_map, option_and_then}
 use Rattle.std.specs.FinMap.{get, insert, from_sorted}
-use Rattle.room_json.specs.Value.{Value, nothing, whole, text, list, members, values_of, fields_of, as_list, as_members, as_text, as_whole}
+use Rattle.room_json.specs.Value.{Value, nothing, whole, text, list, members, values_of, fields_of}
+use Rattle.room_json.specs.Value.{as_list, as_members, as_text, as_whole}
 use Rattle.room_json.specs.View.{json_of}
 use Rattle.room_json.specs.Fields.{field_of}
 use Rattle.room_json.specs.Back.{json_in}
@@ -16,6 +19,7 @@ use Rattle.room_nodes.specs.declared.nodes.Kind.TheVariants.{Object, List as Lis
 use Rattle.room_nodes.specs.Shape.{Nodes, child_at, fits_under, is_object}
 use Rattle.room_nodes.specs.Steps.{depth_in}
 use Rattle.room_nodes.specs.Preorder.{preorder}
+use Rattle.room_items.specs.declared.row.Row.{Row}
 
 -- writing
 
@@ -33,25 +37,25 @@ content_out (Register v) = (codes "data", json_of v) ∷ []
 
 -- the root has no place
 abbrev pub place_out : NodeId → Node → List (List ℕ × Value)
-place_out x n = if is_same x Root then [] else (codes "parentId", text (node_text n.parent)) ∷ (codes "parentKey", text n.key) ∷ []
+place_out x n =
+    if is_same x Root then [] else
+    (codes "parentId", text (node_text n.parent)) ∷ (codes "parentKey", text n.key) ∷ []
 
 abbrev pub node_out : NodeId → Option Node → Value
 node_out x None = nothing
-node_out x (Some n) = object_of (((codes "type", whole (pos (kind_number n.kind))) ∷ []) ++ content_out n.kind ++ place_out x n)
+node_out x (Some n) =
+    object_of (((codes "type", whole (pos (kind_number n.kind))) ∷ []) ++ content_out n.kind ++ place_out x n)
+
+abbrev pub item_there : NodeId → Option Node → Value
+item_there x n = list (values_of (text (node_text x) ∷ node_out x n ∷ []))
 
 abbrev pub item_out : Nodes → NodeId → Value
-item_out t x = list (values_of (text (node_text x) ∷ node_out x (get t x) ∷ []))
+item_out t x = item_there x (get t x)
 
 abbrev pub items_of : Nodes → List Value
 items_of t = map (item_out t) (preorder t Root)
 
 -- reading: what an item says of a node
-
-pub record Row : Type 0 where
-  pub id : NodeId
-  pub parent : NodeId
-  pub key : List ℕ
-  pub kind : Kind
 
 abbrev pub as_node : Value → Option NodeId
 as_node v = option_and_then node_in (as_text v)
@@ -81,16 +85,15 @@ abbrev pub kind_in : Value → Option Kind
 kind_in v = option_and_then (kind_at v) (option_and_then as_whole (field_of (codes "type") v))
 
 -- the item of the root, of which only the fields count
+abbrev pub root_pair : Value × Value → Option Kind
+root_pair p = option_and_then (λ (x : NodeId). if is_same x Root then kind_in p.1 else None) (as_node p.0)
+
 abbrev pub root_in : Value → Option Kind
-root_in v =
-    option_and_then (λ (p : Value × Value).
-    option_and_then (λ (x : NodeId).
-    if is_same x Root then kind_in p.1 else None) (as_node p.0)) (as_pair v)
+root_in v = option_and_then root_pair (as_pair v)
 
 -- the item of another node
-abbrev pub row_in : Value → Option Row
-row_in v =
-    option_and_then (λ (p : Value × Value).
+abbrev pub row_pair : Value × Value → Option Row
+row_pair p =
     option_and_then (λ (x : NodeId).
     option_and_then (λ (kind : Kind).
     option_and_then (λ (parent : NodeId).
@@ -98,7 +101,10 @@ row_in v =
     record { id = x; parent = parent; key = key; kind = kind })
     (option_and_then as_text (field_of (codes "parentKey") p.1)))
     (option_and_then as_node (field_of (codes "parentId") p.1)))
-    (kind_in p.1)) (as_node p.0)) (as_pair v)
+    (kind_in p.1)) (as_node p.0)
+
+abbrev pub row_in : Value → Option Row
+row_in v = option_and_then row_pair (as_pair v)
 
 abbrev pub rows_in : List Value → Option (List Row)
 rows_in [] = Some []
@@ -110,10 +116,13 @@ abbrev pub row_node : Nodes → Row → Node
 row_node t r = record { parent = r.parent; key = r.key; depth = depth_in (get t r.parent) + 1; kind = r.kind }
 
 -- a new id, at a free key of a node that may hold it
+abbrev pub may_put : Nodes → Row → Bool
+may_put t r =
+    not (is_some (get t r.id))
+    && (fits_under (get t r.parent) (row_node t r) && not (is_some (child_at t r.parent r.key)))
+
 abbrev pub put_row : Nodes → Row → Option Nodes
-put_row t r =
-    if not (is_some (get t r.id)) && (fits_under (get t r.parent) (row_node t r) && not (is_some (child_at t r.parent r.key)))
-    then Some (insert t r.id (row_node t r)) else None
+put_row t r = if may_put t r then Some (insert t r.id (row_node t r)) else None
 
 abbrev pub put_rows : Nodes → List Row → Option Nodes
 put_rows t [] = Some t
@@ -128,9 +137,12 @@ same_ids (x ∷ xs) [] = false
 abbrev pub row_id : Row → NodeId
 row_id r = r.id
 
+abbrev pub ordered_by : List NodeId → Nodes → Option Nodes
+ordered_by ids t = if same_ids (preorder t Root) ids then Some t else None
+
 -- the rows stand in the tree's own order
 abbrev pub in_order : List Row → Nodes → Option Nodes
-in_order rs t = if same_ids (preorder t Root) (Root ∷ map row_id rs) then Some t else None
+in_order rs t = ordered_by (Root ∷ map row_id rs) t
 
 abbrev pub root_of : Kind → Nodes
 root_of kind = from_sorted ((Root, record { parent = Root; key = []; depth = 0; kind = kind }) ∷ [])

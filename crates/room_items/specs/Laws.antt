@@ -10,8 +10,7 @@ use Rattle.room_nodes.specs.Shallow.{IsShallowTree}
 use Rattle.room_nodes.specs.Sound.{IsSoundTree}
 use Rattle.room_nodes.specs.Shape.{Nodes, IsFormed}
 use Rattle.room_nodes.specs.declared.nodes.Node.{Node}
-use Rattle.room_items.specs.Items.{row_in, root_in, tree_in, items_of}
-use Rattle.room_items.specs.Rows.{item_there}
+use Rattle.room_items.specs.Items.{item_there, row_in, root_in, tree_in, items_of}
 
 -- what is written of a node below the root is read again
 abbrev pub NodesReadBack : Type 0
@@ -46,7 +45,8 @@ ItemsAreSound = (t : Nodes) → IsSoundTree t → AreJson (values_of (items_of t
 -- a state message of at most 60 levels has items of at most 58, and these are a tree of at most 55 and 56
 
 abbrev pub TreesAreShallow : Type 0
-TreesAreShallow = (vs : List Value) (t : Nodes) → tree_in vs ≡ Some t → values_depth (values_of vs) ≤ 58 → IsShallowTree t
+TreesAreShallow = (vs : List Value) (t : Nodes)
+    → tree_in vs ≡ Some t → values_depth (values_of vs) ≤ 58 → IsShallowTree t
 
 abbrev pub ItemsAreShallow : Type 0
 ItemsAreShallow = (t : Nodes) → IsShallowTree t → values_depth (values_of (items_of t)) ≤ 58

@@ -1,4 +1,7 @@
 pub mod Items
 pub mod Laws
-pub mod Rows
 pub mod View
+pub use Rattle.room_json.specs.Profile
+pub use Rattle.room_json.specs.Value
+pub use Rattle.room_ids.specs.Laws as IdLaws
+pub use Rattle.room_nodes.specs.Shape

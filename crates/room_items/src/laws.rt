@@ -1,5 +1,6 @@
 //! What follows from the definitions alone.
-ghost use Rattle.room_items.specs.Laws.{NodesReadBack, RootReadsBack, TreesReadBack, TreesAreFormed, TreesAreSound, TreesAreShallow, ItemsAreSound, ItemsAreShallow};
+ghost use Rattle.room_items.specs.Laws.{NodesReadBack, RootReadsBack, TreesReadBack};
+ghost use Rattle.room_items.specs.Laws.{TreesAreFormed, TreesAreSound, TreesAreShallow, ItemsAreSound, ItemsAreShallow};
 
 /// The item that is written of a node is read again as that node.
 #[tactic(auto, using(crate::proofs::NodesAgain::nodes_again, crate::proofs::NodesAgain::root_again))]
@@ -14,7 +15,8 @@ pub fn trees_read_back()
     ensures { TreesReadBack }
 {}
 
-/// The tree that items spell is well-formed, sound where they are values of the profile, and as shallow as a state makes it.
+/// The tree that items spell is well-formed, sound where they are values of the profile, and as shallow as a state
+/// makes it.
 pub fn trees_are_sound()
     ensures formed { TreesAreFormed }
     ensures sound { TreesAreSound }

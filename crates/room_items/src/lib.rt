@@ -3,12 +3,12 @@
 
 #[cfg(test)]
 mod counted;
-mod item;
 mod kids;
 mod laws;
 mod order;
 mod putting;
 mod reading;
+mod row;
 mod shape;
 mod showing;
 #[cfg(test)]

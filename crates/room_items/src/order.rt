@@ -10,6 +10,9 @@ use room_json::{NoMemory, Seq, Text};
 use room_tree::Tree;
 use std::alloc::Global;
 
+/// No node lies deeper than this below the root.
+pub(crate) const MAX_NODE_DEPTH: u64 = 60;
+
 #[cycle(push)]
 #[tactic(auto, using(crate::proofs::Levels::within_none, crate::proofs::Levels::within_more))]
 fn push_node<T: Tree>(
@@ -51,7 +54,7 @@ pub(crate) fn order<T: Tree>(alloc: Global, t: &T) -> Result<Seq<NodeId>, NoMemo
     ensures { IfOk result (λ s. s ≡ preorder (T.nodes t.now) Root) }
 {
     let mut ids = Seq::new(alloc);
-    push_node(alloc, t, &NodeId::Root, 60, &mut ids)?;
+    push_node(alloc, t, &NodeId::Root, MAX_NODE_DEPTH, &mut ids)?;
     Ok(ids)
 }
 

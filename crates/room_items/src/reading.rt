@@ -1,29 +1,27 @@
 //! The tree that items spell.
-ghost use Rattle.std.specs.Prelude.{◌≡◌, ◌∷◌, Some, None, IfOk, map, option_map, if◌then◌else◌};
+ghost use Rattle.std.specs.Prelude.{◌≡◌, ◌∷◌, None, IfOk, map, option_map};
 ghost use Rattle.room_json.specs.View.{json_of};
 ghost use Rattle.room_ids.specs.declared.ids.NodeId.TheVariants.{Root};
 ghost use Rattle.room_nodes.specs.Shape.{empty_tree};
 ghost use Rattle.room_nodes.specs.declared.nodes.Kind.TheVariants.{Object};
-ghost use Rattle.room_items.specs.Items.{rows_in, row_id, same_ids, tree_under, tree_in};
-ghost use Rattle.room_nodes.specs.Preorder.{preorder};
-ghost use Rattle.room_items.specs.Rows.{row_of};
+ghost use Rattle.room_items.specs.Items.{rows_in, row_id, ordered_by, tree_under, tree_in};
 
-use crate::item::Item;
 use crate::order::{order, same_list};
 use crate::putting::put_rows;
-use crate::shape::{read_item, read_root};
+use crate::row::Row;
+use crate::shape::{read_root, read_row};
 use room_ids::NodeId;
 use room_json::{Items, Json, Members, NoMemory, Seq};
 use room_nodes::Kind;
 use room_tree::Tree;
 use std::alloc::Global;
 
-fn read_rows(alloc: Global, items: &[Json]) -> Result<Option<Seq<Item>>, NoMemory>
-    ensures { IfOk result (λ rs. option_map (map row_of) rs ≡ rows_in (map json_of items.now)) }
+fn read_rows(alloc: Global, items: &[Json]) -> Result<Option<Seq<Row>>, NoMemory>
+    ensures { IfOk result (λ rs. rs ≡ rows_in (map json_of items.now)) }
 {
     let mut rows = Seq::new(alloc);
     for v in items {
-        match read_item(alloc, v)? {
+        match read_row(alloc, v)? {
             Some(row) => rows.push(row)?,
             None => return Ok(None),
         }
@@ -31,8 +29,8 @@ fn read_rows(alloc: Global, items: &[Json]) -> Result<Option<Seq<Item>>, NoMemor
     Ok(Some(rows))
 }
 
-fn ids_of(alloc: Global, rows: &[Item]) -> Result<Seq<NodeId>, NoMemory>
-    ensures { IfOk result (λ s. s ≡ Root ∷ map row_id (map row_of rows.now)) }
+fn ids_of(alloc: Global, rows: &[Row]) -> Result<Seq<NodeId>, NoMemory>
+    ensures { IfOk result (λ s. s ≡ Root ∷ map row_id rows.now) }
 {
     let mut ids = Seq::new(alloc);
     ids.push(NodeId::Root)?;
@@ -43,7 +41,7 @@ fn ids_of(alloc: Global, rows: &[Item]) -> Result<Seq<NodeId>, NoMemory>
 }
 
 fn in_order<T: Tree>(alloc: Global, t: T, ids: &[NodeId]) -> Result<Option<T>, NoMemory>
-    ensures { IfOk result (λ r. option_map (λ u. T.nodes u) r ≡ (if same_ids (preorder (T.nodes t) Root) ids.now then Some (T.nodes t) else None)) }
+    ensures { IfOk result (λ r. option_map (λ u. T.nodes u) r ≡ ordered_by ids.now (T.nodes t)) }
 {
     let found = order(alloc, &t)?;
     if same_list(found.as_slice(), ids) {
@@ -57,10 +55,10 @@ fn tree_under<T: Tree>(
     alloc: Global,
     into: T,
     fields: Members,
-    rows: Seq<Item>,
+    rows: Seq<Row>,
 ) -> Result<Option<T>, NoMemory>
     requires { T.nodes into ≡ empty_tree }
-    ensures { IfOk result (λ r. option_map (λ u. T.nodes u) r ≡ tree_under (Object fields) (map row_of rows)) }
+    ensures { IfOk result (λ r. option_map (λ u. T.nodes u) r ≡ tree_under (Object fields) rows) }
 {
     let mut into = into;
     let ids = ids_of(alloc, rows.as_slice())?;
@@ -82,10 +80,7 @@ fn read_from<T: Tree>(
     requires { T.nodes into ≡ empty_tree }
     ensures { IfOk result (λ r. option_map (λ u. T.nodes u) r ≡ tree_in (json_of first.now ∷ map json_of rest.now)) }
 {
-    let Some(kind) = read_root(alloc, first)? else {
-        return Ok(None);
-    };
-    let Kind::Object(fields) = kind else {
+    let Some(Kind::Object(fields)) = read_root(alloc, first)? else {
         return Ok(None);
     };
     let Some(rows) = read_rows(alloc, rest)? else {
@@ -94,7 +89,10 @@ fn read_from<T: Tree>(
     tree_under(alloc, into, fields, rows)
 }
 
-/// The tree that items spell, over a tree of the root alone; None where they are no well-formed tree in its own order.
+/// The tree that items spell, put into a tree of the root alone; None where they are no well-formed tree in its own
+/// order.
+///
+/// The calls made of the tree grow with the number of items. Fails only where memory runs out.
 pub fn read_items<T: Tree>(alloc: Global, into: T, v: &Items) -> Result<Option<T>, NoMemory>
     requires { T.nodes into ≡ empty_tree }
     ensures { IfOk result (λ r. option_map (λ u. T.nodes u) r ≡ tree_in v.now) }

@@ -4,10 +4,11 @@ ghost use Rattle.std.specs.Option.{option_copied};
 ghost use Rattle.room_json.specs.Value.{merged, as_text, as_whole};
 ghost use Rattle.room_json.specs.Fields.{field_of};
 ghost use Rattle.room_json.specs.View.{json_of};
-ghost use Rattle.room_items.specs.Items.{as_node, kind_in, kind_of_number, as_pair, row_in, root_in, kind_number, content_out, place_out, node_out};
-ghost use Rattle.room_items.specs.Rows.{row_of, row_pair, root_pair, item_there};
+ghost use Rattle.room_items.specs.Items.{kind_number, content_out, place_out, node_out, item_there};
+ghost use Rattle.room_items.specs.Items.{as_node, as_pair, kind_in, kind_of_number};
+ghost use Rattle.room_items.specs.Items.{row_pair, row_in, root_pair, root_in};
 
-use crate::item::Item;
+use crate::row::Row;
 use room_ids::{NodeId, same_id};
 use room_json::{Copied, Items, Json, Members, NoMemory, Text, field, put, whole};
 use room_nodes::{Kind, Node};
@@ -87,8 +88,8 @@ fn read_key(alloc: Global, v: &Json) -> Result<Option<Text>, NoMemory>
     }
 }
 
-fn read_pair_item(alloc: Global, id: &Json, node: &Json) -> Result<Option<Item>, NoMemory>
-    ensures { IfOk result (λ i. option_map row_of i ≡ row_pair (json_of id.now, json_of node.now)) }
+fn read_pair_row(alloc: Global, id: &Json, node: &Json) -> Result<Option<Row>, NoMemory>
+    ensures { IfOk result (λ i. i ≡ row_pair (json_of id.now, json_of node.now)) }
 {
     let Some(id) = node_id(id) else {
         return Ok(None);
@@ -102,7 +103,7 @@ fn read_pair_item(alloc: Global, id: &Json, node: &Json) -> Result<Option<Item>,
     let Some(key) = read_key(alloc, node)? else {
         return Ok(None);
     };
-    Ok(Some(Item {
+    Ok(Some(Row {
         id,
         parent,
         key,
@@ -111,11 +112,11 @@ fn read_pair_item(alloc: Global, id: &Json, node: &Json) -> Result<Option<Item>,
 }
 
 /// The node below the root that an item tells of.
-pub(crate) fn read_item(alloc: Global, v: &Json) -> Result<Option<Item>, NoMemory>
-    ensures { IfOk result (λ i. option_map row_of i ≡ row_in (json_of v.now)) }
+pub(crate) fn read_row(alloc: Global, v: &Json) -> Result<Option<Row>, NoMemory>
+    ensures { IfOk result (λ i. i ≡ row_in (json_of v.now)) }
 {
     match read_pair(v) {
-        Some((id, node)) => read_pair_item(alloc, id, node),
+        Some((id, node)) => read_pair_row(alloc, id, node),
         None => Ok(None),
     }
 }

@@ -9,6 +9,7 @@ ghost use Rattle.room_json.specs.View.{json_of, members_view};
 ghost use Rattle.room_items.specs.View.{second, node_view, view_within, view as view_spec, view_of as view_of_spec};
 
 use crate::kids::kids;
+use crate::order::MAX_NODE_DEPTH;
 use room_ids::NodeId;
 use room_json::{Copied, Items, Json, Members, NoMemory, Seq, Text};
 use room_nodes::{Kind, Node};
@@ -86,21 +87,21 @@ fn views<T: Tree>(
     Ok(shown)
 }
 
-/// The JSON of the root.
+/// The JSON of the root. Fails only where memory runs out.
 #[tactic(auto, unfolding(crate::specs::View::view_at))]
 pub fn view<T: Tree>(alloc: Global, t: &T) -> Result<Json, NoMemory>
     ensures { IfOk result (λ v. json_of v ≡ view_spec (T.nodes t.now)) }
 {
-    view_node(alloc, t, &NodeId::Root, 60)
+    view_node(alloc, t, &NodeId::Root, MAX_NODE_DEPTH)
 }
 
-/// The JSON of a node, None exactly where it isn't there.
+/// The JSON of a node, None exactly where it isn't there. Fails only where memory runs out.
 #[tactic(auto, unfolding(crate::specs::View::view_at))]
 pub fn view_of<T: Tree>(alloc: Global, t: &T, id: &NodeId) -> Result<Option<Json>, NoMemory>
     ensures { IfOk result (λ v. option_map json_of v ≡ view_of_spec (T.nodes t.now) id.now) }
 {
     match t.node(id) {
-        Some(_) => Ok(Some(view_node(alloc, t, id, 60)?)),
+        Some(_) => Ok(Some(view_node(alloc, t, id, MAX_NODE_DEPTH)?)),
         None => Ok(None),
     }
 }

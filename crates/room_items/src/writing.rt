@@ -19,7 +19,10 @@ fn items_at<T: Tree>(alloc: Global, t: &T, ids: &[NodeId]) -> Result<Items, NoMe
     Ok(items)
 }
 
-/// The items of a tree, in preorder from the root, children in byte order of their keys. They are read again as that tree.
+/// The items of a tree, in preorder from the root, children in byte order of their keys. They are read again as that
+/// tree.
+///
+/// The calls made of the tree grow with the number of its nodes. Fails only where memory runs out.
 pub fn write_items<T: Tree>(alloc: Global, t: &T) -> Result<Items, NoMemory>
     ensures value { IfOk result (λ v. v ≡ items_of (T.nodes t.now)) }
     ensures again { IfOk result (λ v. tree_in v ≡ Some (T.nodes t.now)) }

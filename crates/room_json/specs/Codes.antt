@@ -2,7 +2,8 @@
 use Rattle.std.specs.Prelude.{◌≡◌, ℕ, cond, ℤ, pos, negsuc, List, [], ◌∷◌, Bool, true, false, nat_eq}
 use Rattle.std.proofs.Common.{refl, sym, ap, ◌∙◌}
 use base.Stored.{Gv, gnil, gnum, gcons, Coded, coded_list, coded×, coded_ℕ}
-use Rattle.room_json.specs.Value.{Value, nothing, flag, whole, text, list, members, Values, no_values, value, Fields, no_fields, field}
+use Rattle.room_json.specs.Value.{Value, nothing, flag, whole, text, list, members}
+use Rattle.room_json.specs.Value.{Values, no_values, value, Fields, no_fields, field}
 
 abbrev bit_code : Bool → Gv
 bit_code true = gnum 1
@@ -51,7 +52,13 @@ whole_back _ = pos 0
 
 -- by the tag
 abbrev pick : ℕ → Bool → ℤ → List ℕ → Values → Fields → Value
-pick t b z s vs fs = cond (nat_eq t 0) nothing (cond (nat_eq t 1) (flag b) (cond (nat_eq t 2) (whole z) (cond (nat_eq t 3) (text s) (cond (nat_eq t 4) (list vs) (members fs)))))
+pick t b z s vs fs =
+    cond (nat_eq t 0) nothing
+    (cond (nat_eq t 1) (flag b)
+    (cond (nat_eq t 2) (whole z)
+    (cond (nat_eq t 3) (text s)
+    (cond (nat_eq t 4) (list vs)
+    (members fs)))))
 
 abbrev mutual
   pub value_back : Gv → Value

@@ -29,6 +29,7 @@ pub items_fall : (js : List Json) → max (most deep-Json js) 0 ≤ list_weight 
 items_fall [] = omega arith
 items_fall (j ∷ js) = omega (arith, deep-Json_le j, items_fall js)
 
-pub members_fall : (es : List (List ℕ × Json)) → max (most deep-Json (map (λ (e : List ℕ × Json). e.1) es)) 0 ≤ pairs_weight (members_view es)
+pub members_fall : (es : List (List ℕ × Json))
+    → max (most deep-Json (map (λ (e : List ℕ × Json). e.1) es)) 0 ≤ pairs_weight (members_view es)
 members_fall [] = omega arith
 members_fall (e ∷ es) = omega (arith, deep-Json_le e.1, members_fall es)

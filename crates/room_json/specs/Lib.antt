@@ -3,6 +3,7 @@ pub mod Codes
 pub mod Falls
 pub mod Fields
 pub mod Laws
+pub mod Limits
 pub mod Profile
 pub mod Reading
 pub mod Sent

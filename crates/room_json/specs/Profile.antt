@@ -1,13 +1,15 @@
 -- The values that a `Json` can stand for.
-use Rattle.std.specs.Prelude.{◌≤ℤ◌, ℕ, ℤ, pos, negsuc, List, ⊤, IsUtf8}
+use Rattle.std.specs.Prelude.{◌≤ℤ◌, ℕ, ℤ, pos, List, ⊤, IsUtf8}
 use Rattle.std.specs.Cmp.Lexicographic.{slice_cmp}
 use Rattle.std.specs.List.Sorted.{IsStrictlySortedBy}
 use Rattle.std.specs.Map.{keys_of}
 use Rattle.std.specs.Ordering.{nat_cmp}
-use Rattle.room_json.specs.Value.{Value, nothing, flag, whole, text, list, members, Values, no_values, value, Fields, no_fields, field, fields_of, fields_list}
+use Rattle.room_json.specs.Limits.{max_whole, min_whole}
+use Rattle.room_json.specs.Value.{Value, nothing, flag, whole, text, list, members}
+use Rattle.room_json.specs.Value.{Values, no_values, value, Fields, no_fields, field, fields_of, fields_list}
 
 abbrev pub IsWhole : ℤ → Type 0
-IsWhole z = (negsuc 9007199254740990 ≤ℤ z) × (z ≤ℤ pos 9007199254740991)
+IsWhole z = (min_whole ≤ℤ z) × (z ≤ℤ pos max_whole)
 
 -- whole numbers in their range, texts in UTF-8, distinct names in byte order
 abbrev mutual

@@ -1,6 +1,7 @@
 -- A number that is larger for a value than for those in it.
 use Rattle.std.specs.Prelude.{ℕ, ◌+◌, List, [], ◌∷◌}
-use Rattle.room_json.specs.Value.{Value, nothing, flag, whole, text, list, members, Values, no_values, value, Fields, no_fields, field}
+use Rattle.room_json.specs.Value.{Value, nothing, flag, whole, text, list, members}
+use Rattle.room_json.specs.Value.{Values, no_values, value, Fields, no_fields, field}
 
 abbrev mutual
   pub weight : Value → ℕ

@@ -1,5 +1,6 @@
 //! The text and the depth of a value.
 ghost use Rattle.std.specs.Prelude.{◌≡◌, ◌≤◌, ◌-◌, ◌^◌, min, map, Ok, IfOk, OnOk};
+ghost use Rattle.room_json.specs.Limits.{max_depth};
 ghost use Rattle.room_json.specs.Profile.{IsJson};
 ghost use Rattle.room_json.specs.Reading.{value_of_text};
 ghost use Rattle.room_json.specs.Value.{depth as depth_of, values_depth, fields_depth, values_of, fields_of, text_of};
@@ -18,12 +19,12 @@ use std::collections::BTreeMap;
 pub fn write(alloc: Global, v: &Json) -> Result<Text, NoMemory>
     ensures text { IfOk result (λ t. t ≡ text_of (json_of v.now)) }
     ensures json { OnOk result (IsJson (json_of v.now)) }
-    ensures again { IfOk result (λ t. depth_of (json_of v.now) ≤ 60 → value_of_text t ≡ Ok (json_of v.now)) }
+    ensures again { IfOk result (λ t. depth_of (json_of v.now) ≤ max_depth → value_of_text t ≡ Ok (json_of v.now)) }
 {
-    match serde_json::to_string(alloc, v) {
-        Ok(text) => Ok(Text::from_string(text)),
-        Err(_) => Err(NoMemory),
-    }
+    let Ok(text) = serde_json::to_string(alloc, v) else {
+        return Err(NoMemory);
+    };
+    Ok(Text::from_string(text))
 }
 
 /// How deep lists and objects nest: 0 for a scalar, else one more than the deepest member, 1 where there is none.

@@ -6,7 +6,7 @@ ghost use Rattle.std.specs.Map.{lookup, remove_entry, keys_of};
 ghost use Rattle.std.specs.List.Sorted.{IsStrictlySortedBy};
 ghost use Rattle.std.specs.Cmp.Lexicographic.{slice_cmp};
 ghost use Rattle.std.specs.Ordering.{nat_cmp};
-ghost use Rattle.room_json.specs.View.{json_of, members_view};
+ghost use Rattle.room_json.specs.View.{json_of, members_view, entry_at};
 
 use crate::memory::NoMemory;
 use crate::sound::Sound;
@@ -85,7 +85,7 @@ impl Members {
 
 /// By a name that is no `Text`, so by a walk.
 fn find_by<'a>(entries: &'a BTreeMap<Text, Json>, name: &str) -> Option<&'a Json>
-    ensures { option_map json_of (option_copied result) ≡ lookup (is_at (slice_cmp nat_cmp name.now)) (members_view entries.now.entries) }
+    ensures { option_map json_of (option_copied result) ≡ entry_at name.now entries.now.entries }
 {
     for (key, item) in entries.iter() {
         if name.cmp(key.as_str()) == Ordering::Equal {

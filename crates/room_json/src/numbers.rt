@@ -1,7 +1,12 @@
 //! Whole numbers.
-ghost use Rattle.std.specs.Prelude.{◌≡◌, ◌≤ℤ◌, pos, negsuc, IsSome, IfSome, ◌↔◌};
+ghost use Rattle.std.specs.Prelude.{◌≡◌, ◌≤ℤ◌, pos, IsSome, IfSome, ◌↔◌};
+ghost use Rattle.room_json.specs.Limits.{max_whole, min_whole};
+ghost use Rattle.room_json.specs.Profile.{IsWhole};
 
 use std::marker::Model;
+
+/// The greatest whole number: 2^53-1.
+pub const MAX_WHOLE: u64 = (1 << 53) - 1;
 
 /// A whole number from -(2^53-1) to 2^53-1.
 #[derive(Clone, Copy, Debug, PartialEq, Eq)]
@@ -10,13 +15,14 @@ pub struct Whole {
 }
 
 impl Model for Whole {
-    ghost use Rattle.std.specs.Prelude.{ℤ, ◌≤ℤ◌, pos, negsuc};
+    ghost use Rattle.std.specs.Prelude.{ℤ};
+    ghost use Rattle.room_json.specs.Profile.{IsWhole};
 
     ghost Value = { ℤ };
 
     ghost view = { λ w. w.value };
 
-    ghost invariant = { λ w. (negsuc 9007199254740990 ≤ℤ w.value) × (w.value ≤ℤ pos 9007199254740991) };
+    ghost invariant = { λ w. IsWhole w.value };
 
     ghost inverse = { λ z. record { value = z } };
 }
@@ -24,10 +30,10 @@ impl Model for Whole {
 impl Whole {
     /// The number, None exactly where it is outside the range.
     pub fn new(v: i64) -> Option<Whole>
-        ensures exact { IsSome result ↔ ((negsuc 9007199254740990 ≤ℤ v) × (v ≤ℤ pos 9007199254740991)) }
+        ensures exact { IsSome result ↔ IsWhole v }
         ensures value { IfSome result (λ w. w ≡ v) }
     {
-        if v >= -9007199254740991 && v <= 9007199254740991 {
+        if v.unsigned_abs() <= MAX_WHOLE {
             Some(Whole { value: v })
         } else {
             None
@@ -37,8 +43,8 @@ impl Whole {
     /// The number.
     pub fn get(&self) -> i64
         ensures value { result ≡ self.now }
-        ensures low { negsuc 9007199254740990 ≤ℤ result }
-        ensures high { result ≤ℤ pos 9007199254740991 }
+        ensures low { min_whole ≤ℤ result }
+        ensures high { result ≤ℤ pos max_whole }
     {
         self.value
     }

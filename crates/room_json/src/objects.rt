@@ -5,6 +5,7 @@ ghost use Rattle.std.specs.Cmp.Lexicographic.{slice_cmp};
 ghost use Rattle.std.specs.Option.{option_copied};
 ghost use Rattle.std.specs.Ordering.{nat_cmp};
 ghost use Rattle.room_json.specs.Fields.{field_of};
+ghost use Rattle.room_json.specs.Limits.{max_whole};
 ghost use Rattle.room_json.specs.View.{json_of};
 
 use crate::memory::NoMemory;
@@ -42,7 +43,7 @@ pub fn whole(number: u32) -> Whole
 
 /// The whole number of a `u64` of the profile.
 pub fn whole_u64(number: u64) -> Whole
-    requires { number ≤ 9007199254740991 }
+    requires { number ≤ max_whole }
     ensures { result ≡ pos number }
 {
     match Whole::new(number as i64) {

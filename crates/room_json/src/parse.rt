@@ -2,7 +2,8 @@
 ghost use Rattle.std.specs.Prelude.{◌≡◌, ◌≤◌, ◌^◌, ◌-◌, min, Some, None, Ok, IfOk, IfErr, ok_or, []};
 ghost use Rattle.serde_json.specs.Data.{depth, items_depth, members_depth};
 ghost use Rattle.serde_json.specs.View.{view, number_view, items_view, members_view as object_view};
-ghost use Rattle.room_json.specs.Reading.{whole_in, value_in, items_in, members_into, value_of_text, data_in, profile_in, not_json, IsFaultOf};
+ghost use Rattle.room_json.specs.Reading.{whole_in, value_in, items_in, members_into, value_of_text, data_in};
+ghost use Rattle.room_json.specs.Reading.{profile_in, not_json, IsFaultOf};
 ghost use Rattle.room_json.specs.View.{json_of};
 
 use crate::memory::NoMemory;
@@ -12,6 +13,9 @@ use crate::tree::{Items, Json, Members};
 use crate::utf8::Text;
 use serde_json::{Map, Number, Value};
 use std::alloc::Global;
+
+/// How many levels of lists and objects a value has at most, where it is read.
+pub const MAX_DEPTH: u64 = 60;
 
 #[derive(Clone, Copy, Debug, PartialEq, Eq)]
 enum Misread {
@@ -27,6 +31,20 @@ impl From<NoMemory> for Misread {
 
     fn from(_error: NoMemory) -> Misread {
         Misread::Memory
+    }
+}
+
+impl From<Misread> for JsonFault {
+    ghost use Rattle.std.specs.Prelude.{◌≡◌};
+    ghost use Rattle.room_json.specs.Reading.{fault_of};
+
+    ghost from_gives = { λ m e. e ≡ fault_of m };
+
+    fn from(misread: Misread) -> JsonFault {
+        match misread {
+            Misread::Memory => JsonFault::Memory,
+            Misread::Number => JsonFault::BadNumber,
+        }
     }
 }
 
@@ -65,14 +83,10 @@ fn profiled(alloc: Global, value: Value) -> Result<Json, JsonFault>
     ensures err { IfErr result (IsFaultOf (profile_in (view value))) }
 {
     let levels = value_depth(&value);
-    if levels > 60 {
+    if levels > MAX_DEPTH {
         return Err(JsonFault::TooDeep(levels));
     }
-    match json_from(alloc, value) {
-        Ok(json) => Ok(json),
-        Err(Misread::Memory) => Err(JsonFault::Memory),
-        Err(Misread::Number) => Err(JsonFault::BadNumber),
-    }
+    Ok(json_from(alloc, value)?)
 }
 
 fn whole_from(number: &Number) -> Option<Whole>

@@ -4,8 +4,8 @@ ghost use Rattle.serde_json.specs.Data.{array, object};
 ghost use Rattle.serde_json.specs.Events.{SendsValue};
 ghost use Rattle.room_json.specs.Profile.{AreJson, HaveJson};
 ghost use Rattle.room_json.specs.Sent.{Sends};
-ghost use Rattle.room_json.specs.Value.{list, members, values_of, fields_of};
-ghost use Rattle.room_json.specs.View.{json_of, members_view};
+ghost use Rattle.room_json.specs.Value.{list, values_of};
+ghost use Rattle.room_json.specs.View.{json_of, object_of_entries};
 
 use crate::tree::Json;
 use crate::utf8::Text;
@@ -50,7 +50,7 @@ fn send_items<S: Serializer>(items: &[Json], out: &mut S) -> Result<(), S::Error
 
 #[cycle(send)]
 fn send_members<S: Serializer>(entries: &BTreeMap<Text, Json>, out: &mut S) -> Result<(), S::Error>
-    ensures { OnOk result (Sends (members (fields_of (members_view entries.now.entries))) (S.written out.old) (S.written out.new)) }
+    ensures { OnOk result (Sends (object_of_entries entries.now.entries) (S.written out.old) (S.written out.new)) }
 {
     out.begin_map(Some(entries.len()))?;
     for (name, item) in entries.iter() {

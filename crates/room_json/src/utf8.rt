@@ -6,15 +6,40 @@ use crate::lists::Copied;
 use crate::memory::NoMemory;
 use std::alloc::Global;
 use std::cmp::Ordering;
+use std::error::Error;
+use std::fmt;
 use std::marker::Model;
+use std::str::Utf8Error;
 
 /// Why bytes are no text.
 #[derive(Clone, Copy, Debug, PartialEq, Eq)]
 pub enum TextFault {
-    /// Memory is wanting.
+    /// Out of memory.
     Memory,
     /// The bytes are not UTF-8.
     NotUtf8,
+}
+
+impl fmt::Display for TextFault {
+    fn fmt<W: fmt::Write>(&self, f: &mut fmt::Formatter<W>) -> fmt::Result {
+        f.write_str(match self {
+            TextFault::Memory => "out of memory",
+            TextFault::NotUtf8 => "not UTF-8",
+        })
+    }
+}
+
+impl Error for TextFault {}
+
+impl From<Utf8Error> for TextFault {
+    ghost use Rattle.std.specs.Prelude.{◌≡◌};
+    ghost use Rattle.room_json.specs.declared.utf8.TextFault.TheVariants.{NotUtf8};
+
+    ghost from_gives = { λ _ e. e ≡ NotUtf8 };
+
+    fn from(_error: Utf8Error) -> TextFault {
+        TextFault::NotUtf8
+    }
 }
 
 impl From<NoMemory> for TextFault {
@@ -58,10 +83,8 @@ impl Text {
         ensures not_utf8 { IfErr result (λ e. e ≡ TextFault.NotUtf8 → ¬ (IsUtf8 bytes.now)) }
         ensures memory { IfErr result (λ e. e ≡ TextFault.Memory → IsUtf8 bytes.now) }
     {
-        match std::str::from_utf8(bytes) {
-            Ok(text) => Ok(Text::from_str(alloc, text)?),
-            Err(_) => Err(TextFault::NotUtf8),
-        }
+        let text = std::str::from_utf8(bytes)?;
+        Ok(Text::from_str(alloc, text)?)
     }
 
     /// A copy of a text.

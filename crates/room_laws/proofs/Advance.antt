@@ -8,7 +8,7 @@ use Rattle.room_nodes.specs.declared.nodes.Body.{Body}
 use Rattle.room_nodes.specs.Steps.{fold}
 use Rattle.room_log.specs.Log.{State, Update, tree_after, last_after, ops_of, ops_from}
 use Rattle.room_model.specs.Account.{Batch, beyond}
-use Rattle.room_model.specs.Comes.{told_by}
+use Rattle.room_model.specs.Receive.{told_by}
 use Rattle.room_model.specs.Sound.{RunsOn}
 use Rattle.room_laws.specs.Ledger.{Matches, Ledger, upto}
 use Rattle.room_laws.proofs.Batches.{upto_above}
@@ -43,14 +43,14 @@ pub record Advance (s : State) (last a : ℕ) (done mid rest : List Update) (all
 pub advance : (s : State) (last a : ℕ) (done mid rest : List Update) (all pending : List Batch) (told : ℕ)
     → Ledger s last a done (mid ++ rest) all pending told → Advance s last a done mid rest all pending told
 advance s last a done mid rest all pending told l =
-    let first = left a s.tree 0 done all pending told l.chain l.took in
+    let first = left a s.tree 0 done all pending told l.chain l.received in
     let k = Matches-cut a (tree_after s.tree done) told mid rest pending l.rest last l.takes in
     let f = left a (tree_after s.tree done) told mid pending k.mid k.clock first.chain k.front in
     let b = left a (tree_after (tree_after s.tree done) mid) k.clock rest k.mid l.rest last f.chain k.back in
-    let took : Matches a s.tree 0 (done ++ mid) all k.mid k.clock = Matches-append a s.tree 0 done mid all pending k.mid told k.clock l.took k.front in
+    let received : Matches a s.tree 0 (done ++ mid) all k.mid k.clock = Matches-append a s.tree 0 done mid all pending k.mid told k.clock l.received k.front in
     record {
       clock = k.clock;
-      is = last_after_is a s.tree 0 (done ++ mid) all k.mid k.clock l.chain took;
+      is = last_after_is a s.tree 0 (done ++ mid) all k.mid k.clock l.chain received;
       above = f.above;
       below = b.above;
       within = omega (arith, f.end, upto_above k.clock k.mid);
@@ -61,7 +61,7 @@ advance s last a done mid rest all pending told l =
         all_is = l.all_is;
         last_is = l.last_is;
         chain = l.chain;
-        took = rw f.is took;
+        received = rw f.is received;
         takes = rw (f.is, tree_after-append s.tree done mid) k.back;
       };
     }

@@ -44,7 +44,7 @@ pub record Held (k : ℕ) (bs : List Body) (h : History) : Type 0 where
 
 pub record HeldAs (k : ℕ) (bs : List Body) (h : History) : Type 0 where
   pub count : ℕ
-  pub up : count ≤ suc k
+  pub grown : count ≤ suc k
   pub held : Held count bs h
 
 bag_clash : (k : ℕ) (c : Change) (cs : List Change) → (k ≡ 0 → in_bag (Some (c ∷ cs)) ≡ []) → 0 < k
@@ -59,7 +59,7 @@ noted_held : (k : ℕ) (c : Change) (cs : List Change) (u r : List (List Change)
     → HeldAs k (calls.entry_bodies (c ∷ cs) ++ back_of k (in_bag b ++ u)) (History.noted (c ∷ cs) (record { undo = u; redo = r; bag = b }) b)
 noted_held k c cs u r None l h = record {
   count = suc k;
-  up = omega arith;
+  grown = omega arith;
   held = record {
     back = ap (λ bs. calls.entry_bodies (c ∷ cs) ++ bs) (take_back k 49 u (omega arith));
     some = (let i = take_long k 49 u (omega arith) h.some in omega (arith, i));
@@ -69,7 +69,7 @@ noted_held k c cs u r None l h = record {
 }
 noted_held k c cs u r (Some []) l h = record {
   count = suc k;
-  up = omega arith;
+  grown = omega arith;
   held = record {
     back = ap (λ ds. calls.entry_bodies ds ++ back_of k u) (append-nil (c ∷ cs));
     some = (let i = h.some in omega (arith, i));
@@ -80,7 +80,7 @@ noted_held k c cs u r (Some []) l h = record {
 noted_held zero c cs u r (Some (d ∷ ds)) l h = absurd (omega (arith, bag_clash zero d ds h.begun))
 noted_held (suc k) c cs u r (Some (d ∷ ds)) l h = record {
   count = suc k;
-  up = omega arith;
+  grown = omega arith;
   held = record {
     back = ap (λ bs. bs ++ back_of k u) (entry-append (c ∷ cs) (d ∷ ds)) ∙ append_assoc (calls.entry_bodies (c ∷ cs)) (calls.entry_bodies (d ∷ ds)) (back_of k u);
     some = h.some;
@@ -90,7 +90,7 @@ noted_held (suc k) c cs u r (Some (d ∷ ds)) l h = record {
 }
 
 note_held : (k : ℕ) (e : List Change) (h : History) → k < 50 → Held k (back_of k (entries h)) h → HeldAs k (calls.entry_bodies e ++ back_of k (entries h)) (History.note e h)
-note_held k [] h l g = record { count = k; up = omega arith; held = g }
+note_held k [] h l g = record { count = k; grown = omega arith; held = g }
 note_held k (c ∷ cs) h l g = noted_held k c cs h.undo h.redo h.bag l g
 
 resumed_held : (k : ℕ) (u r : List (List Change)) (b : Option (List Change)) → Held k (back_of k (in_bag b ++ u)) (record { undo = u; redo = r; bag = b })
@@ -154,28 +154,28 @@ front_back : (t s : Nodes) (bs rs cs : List Body) → rs ≡ reverse_all t bs �
 front_back t s bs rs cs e r h = fold-append (fold t bs) rs cs ∙ ap (λ u. fold u cs) (ap (fold (fold t bs)) e ∙ r) ∙ h
 
 -- an undo that was done
-record BackAs (way : calls.Way) (x : Account) (out : calls.Done) : Type 0 where
+record BackAs (way : calls.Direction) (x : Account) (out : calls.Done) : Type 0 where
   none : x.batch ≡ None
   entry : List Change
   is_entry : calls.entry_of way x.history ≡ Some entry
   is : calls.went_back way x entry ≡ out
 
-as_presence : (way : calls.Way) (x : Account) (e : List Change) (size : ℕ) (out : calls.Done) → calls.back_presence way x e size ≡ Ok (Some out) → calls.went_back way x e ≡ out
+as_presence : (way : calls.Direction) (x : Account) (e : List Change) (size : ℕ) (out : calls.Done) → calls.back_presence way x e size ≡ Ok (Some out) → calls.went_back way x e ≡ out
 as_presence way x e size out p = some_is (calls.went_back way x e) out (under (nat_lt _ size) _ (Some (calls.went_back way x e)) (Some out) p)
 
-as_sized : (way : calls.Way) (x : Account) (e : List Change) (c : Bool) (fault : calls.UndoFault) (size : ℕ) (out : calls.Done) → cond c (Err fault) (calls.back_presence way x e size) ≡ Ok (Some out) → calls.went_back way x e ≡ out
+as_sized : (way : calls.Direction) (x : Account) (e : List Change) (c : Bool) (fault : calls.UndoFault) (size : ℕ) (out : calls.Done) → cond c (Err fault) (calls.back_presence way x e size) ≡ Ok (Some out) → calls.went_back way x e ≡ out
 as_sized way x e true fault size out p = cc
 as_sized way x e false fault size out p = as_presence way x e size out p
 
-as_clocked : (way : calls.Way) (x : Account) (e : List Change) (bs : List Body) (o : Option ℕ) (out : calls.Done) → calls.back_clocked way x e bs o ≡ Ok (Some out) → calls.went_back way x e ≡ out
+as_clocked : (way : calls.Direction) (x : Account) (e : List Change) (bs : List Body) (o : Option ℕ) (out : calls.Done) → calls.back_clocked way x e bs o ≡ Ok (Some out) → calls.went_back way x e ≡ out
 as_clocked way x e bs (Some n) out p = cc
 as_clocked way x e bs None out p = as_sized way x e (is_some_list bs && nat_lt _ _) _ (calls.presence_size (calls.entry_presence x.me e)) out p
 
-as_entry : (way : calls.Way) (x : Account) (o : Option (List Change)) (out : calls.Done) → x.batch ≡ None → calls.entry_of way x.history ≡ o → calls.back_entry way x o ≡ Ok (Some out) → BackAs way x out
+as_entry : (way : calls.Direction) (x : Account) (o : Option (List Change)) (out : calls.Done) → x.batch ≡ None → calls.entry_of way x.history ≡ o → calls.back_entry way x o ≡ Ok (Some out) → BackAs way x out
 as_entry way x None out n f p = cc
 as_entry way x (Some e) out n f p = record { none = n; entry = e; is_entry = f; is = as_clocked way x e (calls.entry_bodies e) _ out p }
 
-back_as : (way : calls.Way) (x : Account) (o : Option OpenBatch) (out : calls.Done) → x.batch ≡ o → calls.back_at way x o ≡ Ok (Some out) → BackAs way x out
+back_as : (way : calls.Direction) (x : Account) (o : Option OpenBatch) (out : calls.Done) → x.batch ≡ o → calls.back_at way x o ≡ Ok (Some out) → BackAs way x out
 back_as way x (Some o) out n p = cc
 back_as way x None out n p = as_entry way x (calls.entry_of way x.history) out n refl p
 
@@ -195,7 +195,7 @@ edited_leads : (s t : Nodes) (k : ℕ) (x : Account) (m : Made) (bs : List Body)
     → Held k (back_of k (entries x.history)) x.history → k < 50 → Reverses t bs → Leads s k (calls.edited_in x t m bs o)
 edited_leads s t k x m bs (Some o) n e f h l r = record {
   count = k;
-  up = omega arith;
+  grown = omega arith;
   leads = record {
     tree = fold t bs;
     shows = longer_shown x (calls.edited_in x t m bs (Some o)) x.confirmed t bs e
@@ -210,14 +210,14 @@ edited_leads s t k x m bs (Some o) n e f h l r = record {
 }
 edited_leads s t k x m [] None n e f h l r = record {
   count = k;
-  up = omega arith;
+  grown = omega arith;
   leads = record { tree = t; shows = e; back = ap (λ z. fold t (open_back z ++ back_of k (entries x.history))) n ∙ f; some = h.some; few = h.few; begun = h.begun };
 }
 edited_leads s t k x m (b ∷ bs) None n e f h l r =
     let g = note_held k (calls.changes_back t (b ∷ bs)) x.history l h in
     record {
       count = g.count;
-      up = g.up;
+      grown = g.grown;
       leads = record {
         tree = fold t (b ∷ bs);
         shows = more_shown x (b ∷ bs) x.confirmed t e (ap bodies_in n) (calls.edited_in x t m (b ∷ bs) None) n refl refl;
@@ -257,7 +257,7 @@ end_leads s k x out (Some o) n h l p =
     let g = note_held k o.changes x.history l (held_of s k x h) in
     subst (λ (d : calls.Done). Leads s k d.account) (ok_is (calls.closed x o) out p) (record {
       count = g.count;
-      up = g.up;
+      grown = g.grown;
       leads = record {
         tree = h.tree;
         shows = shown_same x (calls.closed x o).account x.confirmed (append-nil (all_bodies (x.sent ++ (x.fresh ++ calls.issues_of x o.bodies))) ∙ issued_more x o.bodies ∙ ap (λ z. all_bodies (issued x) ++ bodies_in z) (sym n)) ∙ h.shows;
@@ -341,7 +341,7 @@ redo_leads s k x out h l r p =
     let is : calls.entry_bodies rev ≡ reverse_all h.tree (calls.entry_bodies a.entry) = reversal_is (calls.tree_or_bare (shown x)) x.me a.entry ∙ ap (λ z. reverse_all (calls.tree_or_bare z) (calls.entry_bodies a.entry)) h.shows in
     subst (λ (d : calls.Done). Leads s k d.account) a.is (record {
       count = suc k;
-      up = omega arith;
+      grown = omega arith;
       leads = record {
         tree = fold h.tree (calls.entry_bodies a.entry);
         shows = more_shown x (calls.entry_bodies a.entry) x.confirmed h.tree h.shows (ap bodies_in a.none) y a.none refl refl;
@@ -361,7 +361,7 @@ patched_leads : (s : Nodes) (k : ℕ) (x : Account) (patch : List (List ℕ × V
     → Leads s k (record x { me = merged x.me patch; unsent = with_names x.unsent patch; batch = calls.open_patched back patch o; history = calls.noted_alone back x.history o })
 patched_leads s k x patch back (Some o) e n h l = record {
   count = k;
-  up = omega arith;
+  grown = omega arith;
   leads = record {
     tree = h.tree;
     shows = shown_same x (record x { batch = calls.open_patched back patch (Some o) }) x.confirmed (ap (λ z. all_bodies (issued x) ++ bodies_in z) (sym n)) ∙ h.shows;
@@ -376,7 +376,7 @@ patched_leads s k x patch back None e n h l =
     let g = note_held k back x.history l (held_of s k x h) in
     record {
       count = g.count;
-      up = g.up;
+      grown = g.grown;
       leads = record {
         tree = h.tree;
         shows = shown_same x (record x { batch = None }) x.confirmed (ap (λ z. all_bodies (issued x) ++ bodies_in z) (sym n)) ∙ h.shows;

@@ -19,9 +19,9 @@ use Rattle.room_laws.proofs.Whole.{each_shows, each_once}
 -- a course is the run over its lines
 whole_is : (s : State) (q : Course) (c : ℕ) → run (opened s) (lines_of q c) ≡ whole s q c
 whole_is s q c =
-    let undoing = (q.back, lines.Undo c) ∷ q.rest in
-    let ending = (q.last, lines.End c) ∷ (q.until ++ undoing) in
-    run-append q.before ((q.first, lines.Begin c) ∷ (q.within ++ ending)) (opened s)
+    let undoing = (q.back, lines.OfClient c lines.Undo) ∷ q.rest in
+    let ending = (q.last, lines.OfClient c lines.End) ∷ (q.until ++ undoing) in
+    run-append q.before ((q.first, lines.OfClient c lines.Begin) ∷ (q.within ++ ending)) (opened s)
     ∙ run-append q.within ending (begun s q c)
     ∙ run-append q.until undoing (ended s q c)
 

@@ -5,10 +5,10 @@ use Rattle.std.proofs.lemmas.Bool.{cases_eq, eq-eqb, ne_eqb}
 use Rattle.std.specs.FinMap.{get}
 use Rattle.room_log.specs.Log.{State, last_of, updates_of}
 use Rattle.room_model.specs.Server
-use Rattle.room_model.specs.Server.{Down, Closed, Link, Up, Served}
+use Rattle.room_model.specs.Server.{Outbound, Closed, Link, Inbound, Served}
 use Rattle.room_model.specs.World
-use Rattle.room_model.specs.World.{Conn, Seat, Host, Running, Fuse, state_in, links_of}
-use Rattle.room_model.specs.Run.{Run, seat, with_step}
+use Rattle.room_model.specs.World.{Conn, Slot, Host, Running, Fuse, state_in, links_of, slot}
+use Rattle.room_model.specs.Run.{Run, with_step}
 use Rattle.room_laws.specs.Core.{actor}
 use Rattle.room_laws.specs.Invariant
 use Rattle.room_laws.proofs.Maps.{get_none, emptied_at, hushed, conn_same, conn_other, get_same, get_other, removed_same}
@@ -24,21 +24,21 @@ ended : (a o : Option ℕ) → World.newly_given a None o ≡ []
 ended None o = refl
 ended (Some a) o = refl
 
-module _ (s : State) (r : Run) (v : Server.Server) (k : ℕ) (q : Conn) (u : Up) (us : List Up) (st : Invariant.Inv s r) (there : get r.world.conns k ≡ Some q) (first : q.up ≡ u ∷ us) (runs : r.world.host ≡ Running v) where
+module _ (s : State) (r : Run) (v : Server.Server) (k : ℕ) (q : Conn) (u : Inbound) (us : List Inbound) (st : Invariant.Inv s r) (there : get r.world.conns k ≡ Some q) (first : q.inbound ≡ u ∷ us) (runs : r.world.host ≡ Running v) where
   abbrev shorter : Conn
-  shorter = record q { up = us }
+  shorter = record q { inbound = us }
 
   abbrev w : World.World
-  w = World.with_conn r.world k (record q { up = us })
+  w = World.with_conn r.world k (record q { inbound = us })
 
-  abbrev ups : ℕ → List Up
-  ups j = cond (j == k) us (Invariant.conn r.world j).up
+  abbrev inbounds : ℕ → List Inbound
+  inbounds j = cond (j == k) us (Invariant.conn r.world j).inbound
 
   pub is : Invariant.conn r.world k ≡ q
   is = ap Invariant.conn_in there
 
-  pub conns_at : (j : ℕ) → (j ≡ k) ⊎ (j ≡ k → ⊥) → Invariant.conn w j ≡ record (Invariant.conn r.world j) { up = cond (j == k) us (Invariant.conn r.world j).up }
-  conns_at j (inl e) = rw (eq-eqb j k e) (rw e (conn_same r.world.conns k shorter ∙ ap (λ (p : Conn). record p { up = us }) (sym is)))
+  pub conns_at : (j : ℕ) → (j ≡ k) ⊎ (j ≡ k → ⊥) → Invariant.conn w j ≡ record (Invariant.conn r.world j) { inbound = cond (j == k) us (Invariant.conn r.world j).inbound }
+  conns_at j (inl e) = rw (eq-eqb j k e) (rw e (conn_same r.world.conns k shorter ∙ ap (λ (p : Conn). record p { inbound = us }) (sym is)))
   conns_at j (inr e) = rw (ne_eqb j k e) (conn_other r.world.conns k shorter j e)
 
   pub there_at : (j : ℕ) → (j ≡ k) ⊎ (j ≡ k → ⊥) → is_some (get r.world.conns j) ≡ true → is_some (get w.conns j) ≡ true
@@ -46,7 +46,7 @@ module _ (s : State) (r : Run) (v : Server.Server) (k : ℕ) (q : Conn) (u : Up)
   there_at j (inr e) i = ap is_some (get_other r.world.conns k shorter j e) ∙ i
 
   pub low : r.world.opened < k → ⊥
-  low i = no_cons u us (sym first ∙ ap (λ (p : Conn). p.up) (sym is ∙ st.shape.unopened k i))
+  low i = no_cons u us (sym first ∙ ap (λ (p : Conn). p.inbound) (sym is ∙ st.shape.unopened k i))
 
   -- a stop empties that queue too
   hushed_at : (j : ℕ) → (j ≡ k) ⊎ (j ≡ k → ⊥) → hushed (Invariant.conn w j) ≡ hushed (Invariant.conn r.world j)
@@ -56,7 +56,7 @@ module _ (s : State) (r : Run) (v : Server.Server) (k : ℕ) (q : Conn) (u : Up)
   stops n f =
       let same : n ≡ state_in r.world.host = f ∙ ap state_in (sym runs) in
       keeps_stopping s r (record r { world = World.stopped w n }) [] st (record {
-        seats = λ d. refl;
+        slots = λ d. refl;
         batches = λ d. refl;
         opened = refl;
         log = sym (append-nil (updates_of r.log));
@@ -99,7 +99,7 @@ module _ (s : State) (r : Run) (v : Server.Server) (k : ℕ) (q : Conn) (u : Up)
   pub keeps_shut : (l : Link) (code : ℕ) (text : List ℕ) → get v.links k ≡ Some l → Kept (Server.shut v k l code text)
   keeps_shut l code text e = quietly (Server.shut v k l code text) refl
       (ap (λ o. World.newly_given (World.actor_on (get v.links k)) (World.actor_on o) (World.owner_of (get w.conns k))) (removed_same v.links k) ∙ ended (World.actor_on (get v.links k)) (World.owner_of (get w.conns k)))
-      (λ f. keeps_leaving s r v k l w.conns (λ j. cond (j == k) us (Invariant.conn r.world j).up) f ((k, Closed code text) ∷ []) st runs e (λ j. conns_at j (cases_eq j k)) (λ j i. there_at j (cases_eq j k) i)
+      (λ f. keeps_leaving s r v k l w.conns (λ j. cond (j == k) us (Invariant.conn r.world j).inbound) f ((k, Closed code text) ∷ []) st runs e (λ j. conns_at j (cases_eq j k)) (λ j i. there_at j (cases_eq j k) i)
       (λ j i. rw (ne_eqb j k i) refl) (λ j i. rw (ne_eqb k j (λ d. i (sym d))) refl) (inr (code, (text, rw (eq-eqb k k refl) refl))) (rw (eq-eqb k k refl) refl))
 
   -- a frame of a connection that isn't attached
@@ -120,6 +120,6 @@ module _ (s : State) (r : Run) (v : Server.Server) (k : ℕ) (q : Conn) (u : Up)
 
       popped : Invariant.Inv s (record r { world = w })
       popped = pops s r k q us st is low (λ d o i.
-          let old = subst (λ (z : Option Link). Invariant.Ups ((seat r.world d).present ≡ Some k) (Invariant.core_of r.world d).session (Invariant.tried (Invariant.core_of r.world d)) (Invariant.issued_by r d)
-          (last_of (Invariant.sessions r) (actor (Invariant.core_of r.world d))) z (Invariant.conn r.world k).up) unlinked (st.ups d k o i) in
-          absurd (no_cons u us (sym first ∙ ap (λ (p : Conn). p.up) (sym is) ∙ old)))
+          let old = subst (λ (z : Option Link). Invariant.Inbounds ((slot r.world d).present ≡ Some k) (Invariant.core_of r.world d).session (Invariant.tried (Invariant.core_of r.world d)) (Invariant.issued_by r d)
+          (last_of (Invariant.sessions r) (actor (Invariant.core_of r.world d))) z (Invariant.conn r.world k).inbound) unlinked (st.inbounds d k o i) in
+          absurd (no_cons u us (sym first ∙ ap (λ (p : Conn). p.inbound) (sym is) ∙ old)))

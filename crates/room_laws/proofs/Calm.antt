@@ -10,10 +10,10 @@ use Rattle.room_msg.specs.declared.messages.Resume.{Resume}
 use Rattle.room_msg.specs.declared.messages.ServerMsg.TheVariants as server
 use Rattle.room_log.specs.Log.{State, Update, last_of, last_after, tree_after, updates_of}
 use Rattle.room_model.specs.Account.{Part, Synced, actor_in}
-use Rattle.room_model.specs.Comes.{other_parts, parts_items}
-use Rattle.room_model.specs.Server.{Down, Message, Closed, Link, Up, has_session, parts_within}
-use Rattle.room_model.specs.World.{Conn, state_in, with_down, is_close}
-use Rattle.room_model.specs.Run.{Run, seat, all_given, IsUndisturbed}
+use Rattle.room_model.specs.Receive.{other_parts, parts_items}
+use Rattle.room_model.specs.Server.{Outbound, Message, Closed, Link, Inbound, has_session, parts_within}
+use Rattle.room_model.specs.World.{Conn, state_in, with_outbound, is_close, slot}
+use Rattle.room_model.specs.Run.{Run, all_given, IsUndisturbed}
 use Rattle.room_laws.specs.Core.{actor}
 use Rattle.room_laws.specs.Queues.{Place, IsOn, Says, Waits}
 use Rattle.room_laws.specs.Invariant
@@ -23,23 +23,23 @@ use Rattle.room_laws.proofs.Served.{served, fed}
 use Rattle.room_laws.proofs.Sent.{grown_nil, AllSaid, present_said, present_left, present_closed, present_on}
 use Rattle.room_laws.proofs.Stops.{own_same}
 
--- the queue up, after what came down: a close empties it
-abbrev pub ups_after : List Up → List Down → List Up
-ups_after us [] = us
-ups_after us (m ∷ ms) = ups_after (cond (is_close m) [] us) ms
+-- the inbound queue, after what came down: a close empties it
+abbrev pub inbounds_after : List Inbound → List Outbound → List Inbound
+inbounds_after us [] = us
+inbounds_after us (m ∷ ms) = inbounds_after (cond (is_close m) [] us) ms
 
-down_nil : (b : Bool) (d : List Down) → cond b (d ++ []) d ≡ d
-down_nil true d = append-nil d
-down_nil false d = refl
+outbound_nil : (b : Bool) (d : List Outbound) → cond b (d ++ []) d ≡ d
+outbound_nil true d = append-nil d
+outbound_nil false d = refl
 
-down_cons : (b : Bool) (d : List Down) (m : Down) (ms : List Down) → cond b (cond b (d ++ m ∷ []) d ++ ms) (cond b (d ++ m ∷ []) d) ≡ cond b (d ++ m ∷ ms) d
-down_cons true d m ms = append_assoc d (m ∷ []) ms
-down_cons false d m ms = refl
+outbound_cons : (b : Bool) (d : List Outbound) (m : Outbound) (ms : List Outbound) → cond b (cond b (d ++ m ∷ []) d ++ ms) (cond b (d ++ m ∷ []) d) ≡ cond b (d ++ m ∷ ms) d
+outbound_cons true d m ms = append_assoc d (m ∷ []) ms
+outbound_cons false d m ms = refl
 
-pub given_fed : (q : Conn) (ms : List Down) → given_all q ms ≡ fed q (ups_after q.up ms) ms
-given_fed q [] = ap (λ (d : List Down). record { owner = q.owner; up = q.up; down = d; listens = q.listens }) (sym (down_nil q.listens q.down))
-given_fed q (m ∷ ms) = given_fed (with_down q m) ms
-    ∙ ap (λ (d : List Down). record { owner = q.owner; up = ups_after (cond (is_close m) [] q.up) ms; down = d; listens = q.listens }) (down_cons q.listens q.down m ms)
+pub given_fed : (q : Conn) (ms : List Outbound) → given_all q ms ≡ fed q (inbounds_after q.inbound ms) ms
+given_fed q [] = ap (λ (d : List Outbound). record { owner = q.owner; inbound = q.inbound; outbound = d; listens = q.listens }) (sym (outbound_nil q.listens q.outbound))
+given_fed q (m ∷ ms) = given_fed (with_outbound q m) ms
+    ∙ ap (λ (d : List Outbound). record { owner = q.owner; inbound = inbounds_after (cond (is_close m) [] q.inbound) ms; outbound = d; listens = q.listens }) (outbound_cons q.listens q.outbound m ms)
 
 -- no connection without a session is sent anything but closes
 
@@ -47,11 +47,11 @@ abbrev pub Sessionless : Option Link → Type 0
 Sessionless None = Unit {0}
 Sessionless (Some l) = l.actor ≡ None
 
-pub record SaidTo (l : Option Link) (ms : List Down) : Type 0 where
+pub record SaidTo (l : Option Link) (ms : List Outbound) : Type 0 where
   pub said : AllSaid ms
   pub bare : Sessionless l → ms ≡ []
 
-pub passes_said : (m : Down) (l : Option Link) → ((s : State) (w : Option Resume) (p : Place) → IsOn p.stage → Says s w p m p) → SaidTo l (passes has_session m l)
+pub passes_said : (m : Outbound) (l : Option Link) → ((s : State) (w : Option Resume) (p : Place) → IsOn p.stage → Says s w p m p) → SaidTo l (passes has_session m l)
 passes_said m None f = record { said = tt; bare = λ e. refl }
 passes_said m (Some l) f = at l.actor refl
   where
@@ -64,7 +64,7 @@ passes_said m (Some l) f = at l.actor refl
 
 -- a state in parts
 
-abbrev pub part_msgs : ℕ → ℕ → List (List Value × Bool) → List Down
+abbrev pub part_msgs : ℕ → ℕ → List (List Value × Bool) → List Outbound
 part_msgs seq last [] = []
 part_msgs seq last (p ∷ ps) = Message (server.State seq last p.0 p.1) ∷ part_msgs seq last ps
 
@@ -105,16 +105,16 @@ module _ (s : State) (w : Option Resume) (seq last : ℕ) where
       }
 
 -- what becomes of a connection
-pub record Same (l l' : Option Link) (ms : List Down) : Type 0 where
+pub record Same (l l' : Option Link) (ms : List Outbound) : Type 0 where
   pub link : l' ≡ l
   pub said : SaidTo l ms
 
-pub record Left (l' : Option Link) (ms : List Down) (us : List Up) : Type 0 where
+pub record Left (l' : Option Link) (ms : List Outbound) (us : List Inbound) : Type 0 where
   pub link : l' ≡ None
-  pub ups : us ≡ []
+  pub inbounds : us ≡ []
   pub sent : (ms ≡ []) ⊎ ((code : ℕ) × ((text : List ℕ) × (ms ≡ Closed code text ∷ [])))
 
-pub record Fetched (v : State) (l l' : Option Link) (ms : List Down) : Type 0 where
+pub record Fetched (v : State) (l l' : Option Link) (ms : List Outbound) : Type 0 where
   pub before : Link
   pub actor : ℕ
   pub link : l ≡ Some before
@@ -123,25 +123,25 @@ pub record Fetched (v : State) (l l' : Option Link) (ms : List Down) : Type 0 wh
   pub size : ℕ
   pub sent : ms ≡ part_msgs v.count (last_of v.sessions actor) (parts_within size (items_of v.tree))
 
-pub record Calmly (s : State) (r t : Run) (sends : ℕ → List Down) (ups : ℕ → List Up) : Type 0 where
-  pub seats : (d : ℕ) → seat t.world d ≡ seat r.world d
+pub record Calmly (s : State) (r t : Run) (sends : ℕ → List Outbound) (inbounds : ℕ → List Inbound) : Type 0 where
+  pub slots : (d : ℕ) → slot t.world d ≡ slot r.world d
   pub batches : (d : ℕ) → Invariant.issued_by t d ≡ Invariant.issued_by r d
   pub opened : t.world.opened ≡ r.world.opened
   pub log : updates_of t.log ≡ updates_of r.log
   pub given : t.given ≡ r.given
   pub state : state_in t.world.host ≡ state_in r.world.host
   pub hosts : Invariant.Hosts t.world.host
-  pub conns : (j : ℕ) → Invariant.conn t.world j ≡ fed (Invariant.conn r.world j) (ups j) (sends j)
+  pub conns : (j : ℕ) → Invariant.conn t.world j ≡ fed (Invariant.conn r.world j) (inbounds j) (sends j)
   pub there : (j : ℕ) → is_some (get r.world.conns j) ≡ true → is_some (get t.world.conns j) ≡ true
-  pub unopened : (j : ℕ) → r.world.opened < j → ups j ≡ []
+  pub unopened : (j : ℕ) → r.world.opened < j → inbounds j ≡ []
   pub at : (j d : ℕ) → (Invariant.conn r.world j).owner ≡ Some d → IsUndisturbed r d
-      → Same (Invariant.link r.world j) (Invariant.link t.world j) (sends j) ⊎ (Left (Invariant.link t.world j) (sends j) (ups j) ⊎ Fetched (state_in r.world.host) (Invariant.link r.world j) (Invariant.link t.world j) (sends j))
+      → Same (Invariant.link r.world j) (Invariant.link t.world j) (sends j) ⊎ (Left (Invariant.link t.world j) (sends j) (inbounds j) ⊎ Fetched (state_in r.world.host) (Invariant.link r.world j) (Invariant.link t.world j) (sends j))
   pub links : (j : ℕ) (l : Link) → Invariant.link t.world j ≡ Some l → (m : Link) × (Invariant.link r.world j ≡ Some m) × (m.actor ≡ l.actor)
-  pub ups_are : (d j : ℕ) → (Invariant.conn r.world j).owner ≡ Some d → IsUndisturbed r d
-      → Invariant.Ups ((seat r.world d).present ≡ Some j) (Invariant.core_of r.world d).session (Invariant.tried (Invariant.core_of r.world d)) (Invariant.issued_by r d)
-      (last_of (Invariant.sessions r) (actor (Invariant.core_of r.world d))) (Invariant.link t.world j) (ups j)
+  pub inbounds_are : (d j : ℕ) → (Invariant.conn r.world j).owner ≡ Some d → IsUndisturbed r d
+      → Invariant.Inbounds ((slot r.world d).present ≡ Some j) (Invariant.core_of r.world d).session (Invariant.tried (Invariant.core_of r.world d)) (Invariant.issued_by r d)
+      (last_of (Invariant.sessions r) (actor (Invariant.core_of r.world d))) (Invariant.link t.world j) (inbounds j)
 
-module _ (s : State) (r t : Run) (sends : ℕ → List Down) (ups : ℕ → List Up) (st : Invariant.Inv s r) (h : Calmly s r t sends ups) where
+module _ (s : State) (r t : Run) (sends : ℕ → List Outbound) (inbounds : ℕ → List Inbound) (st : Invariant.Inv s r) (h : Calmly s r t sends inbounds) where
   undo : (d : ℕ) → all_given d (actor (Invariant.core_of r.world d)) (r.given ++ []) ≡ true → IsUndisturbed r d
   undo d u = subst (λ g. all_given d (actor (Invariant.core_of r.world d)) g ≡ true) (append-nil r.given) u
 
@@ -151,17 +151,17 @@ module _ (s : State) (r t : Run) (sends : ℕ → List Down) (ups : ℕ → List
   stays : (session : Option Resume) (d : ℕ) (w : Resume) → session ≡ None → all_given d w.actor (r.given ++ []) ≡ true → Invariant.New s us (Invariant.sessions r) w → Invariant.New s (us ++ []) (Invariant.sessions r) w
   stays session d w z u n = rw (append-nil us) n
 
-  same_at : (d : ℕ) (session : Option Resume) (here : Place) (q ms : List Down) (l : Option Link) → SaidTo l ms
+  same_at : (d : ℕ) (session : Option Resume) (here : Place) (q ms : List Outbound) (l : Option Link) → SaidTo l ms
       → Invariant.Present s us (Invariant.sessions r) r.given d session here q l → Invariant.Present s (us ++ []) (Invariant.sessions r) (r.given ++ []) d session (grown [] here) (q ++ ms) l
   same_at d session here q ms None k p = rw (k.bare tt) (present_left s us (Invariant.sessions r) r.given [] d session here q [] (Invariant.sessions r) None (stays session d) p)
   same_at d session here q ms (Some l) k p = present_said s us (Invariant.sessions r) r.given [] d session here q (Invariant.sessions r) ms l (stays session d) k.bare k.said p
 
-  left_at : (d : ℕ) (session : Option Resume) (here : Place) (q ms : List Down) (l : Option Link) → (ms ≡ []) ⊎ ((code : ℕ) × ((text : List ℕ) × (ms ≡ Closed code text ∷ [])))
+  left_at : (d : ℕ) (session : Option Resume) (here : Place) (q ms : List Outbound) (l : Option Link) → (ms ≡ []) ⊎ ((code : ℕ) × ((text : List ℕ) × (ms ≡ Closed code text ∷ [])))
       → Invariant.Present s us (Invariant.sessions r) r.given d session here q l → Invariant.Present s (us ++ []) (Invariant.sessions r) (r.given ++ []) d session (grown [] here) (q ++ ms) None
   left_at d session here q ms l (inl e) p = rw e (present_left s us (Invariant.sessions r) r.given [] d session here q [] (Invariant.sessions r) l (stays session d) p)
   left_at d session here q ms l (inr e) p = rw e.1.1 (present_closed s us (Invariant.sessions r) r.given [] d session here q (Invariant.sessions r) e.0 e.1.0 l (stays session d) p)
 
-  fetched_at : (d : ℕ) (session : Option Resume) (here : Place) (q ms : List Down) (l l' : Option Link) → us ≡ here.done ++ here.coming
+  fetched_at : (d : ℕ) (session : Option Resume) (here : Place) (q ms : List Outbound) (l l' : Option Link) → us ≡ here.done ++ here.coming
       → Fetched (state_in r.world.host) l l' ms
       → Invariant.Present s us (Invariant.sessions r) r.given d session here q l → Invariant.Present s (us ++ []) (Invariant.sessions r) (r.given ++ []) d session (grown [] here) (q ++ ms) l'
   fetched_at d session here q ms l l' w k p = go (subst (λ (o : Option Link). Invariant.Linked p.who here.stage q p.end o) k.link p.linked)
@@ -189,17 +189,17 @@ module _ (s : State) (r t : Run) (sends : ℕ → List Down) (ups : ℕ → List
           (subst (λ (e : Place). Waits s p.who e (part_msgs (state_in r.world.host).count (last_of (Invariant.sessions r) k.actor) (parts_within k.size (items_of (state_in r.world.host).tree))) (record { stage = Synced; parts = []; done = p.end.done ++ p.end.coming; coming = [] })) (sym (grown_nil p.end)) waits)
           (inr (record { resume = g.resume; some = g.some; actor = g.actor; on = tt; whole = refl; fetched = λ i. (refl, refl) })))
 
-  present_at : (d j : ℕ) → IsUndisturbed r d → (seat r.world d).present ≡ Some j → (here : Place) → us ≡ here.done ++ here.coming
-      → Same (Invariant.link r.world j) (Invariant.link t.world j) (sends j) ⊎ (Left (Invariant.link t.world j) (sends j) (ups j) ⊎ Fetched (state_in r.world.host) (Invariant.link r.world j) (Invariant.link t.world j) (sends j))
-      → Invariant.Present s us (Invariant.sessions r) r.given d (Invariant.core_of r.world d).session here (Invariant.conn r.world j).down (Invariant.link r.world j)
-      → Invariant.Present s (us ++ []) (Invariant.sessions r) (r.given ++ []) d (Invariant.core_of r.world d).session (grown [] here) ((Invariant.conn r.world j).down ++ sends j) (Invariant.link t.world j)
-  present_at d j u e here w (inl k) p = rw k.link (same_at d (Invariant.core_of r.world d).session here (Invariant.conn r.world j).down (sends j) (Invariant.link r.world j) k.said p)
-  present_at d j u e here w (inr (inl k)) p = rw k.link (left_at d (Invariant.core_of r.world d).session here (Invariant.conn r.world j).down (sends j) (Invariant.link r.world j) k.sent p)
-  present_at d j u e here w (inr (inr k)) p = fetched_at d (Invariant.core_of r.world d).session here (Invariant.conn r.world j).down (sends j) (Invariant.link r.world j) (Invariant.link t.world j) w k p
+  present_at : (d j : ℕ) → IsUndisturbed r d → (slot r.world d).present ≡ Some j → (here : Place) → us ≡ here.done ++ here.coming
+      → Same (Invariant.link r.world j) (Invariant.link t.world j) (sends j) ⊎ (Left (Invariant.link t.world j) (sends j) (inbounds j) ⊎ Fetched (state_in r.world.host) (Invariant.link r.world j) (Invariant.link t.world j) (sends j))
+      → Invariant.Present s us (Invariant.sessions r) r.given d (Invariant.core_of r.world d).session here (Invariant.conn r.world j).outbound (Invariant.link r.world j)
+      → Invariant.Present s (us ++ []) (Invariant.sessions r) (r.given ++ []) d (Invariant.core_of r.world d).session (grown [] here) ((Invariant.conn r.world j).outbound ++ sends j) (Invariant.link t.world j)
+  present_at d j u e here w (inl k) p = rw k.link (same_at d (Invariant.core_of r.world d).session here (Invariant.conn r.world j).outbound (sends j) (Invariant.link r.world j) k.said p)
+  present_at d j u e here w (inr (inl k)) p = rw k.link (left_at d (Invariant.core_of r.world d).session here (Invariant.conn r.world j).outbound (sends j) (Invariant.link r.world j) k.sent p)
+  present_at d j u e here w (inr (inr k)) p = fetched_at d (Invariant.core_of r.world d).session here (Invariant.conn r.world j).outbound (sends j) (Invariant.link r.world j) (Invariant.link t.world j) w k p
 
   pub calm : Invariant.Inv s t
-  calm = served s r t [] [] sends ups st (record {
-    seats = h.seats;
+  calm = served s r t [] [] sends inbounds st (record {
+    slots = h.slots;
     batches = h.batches;
     opened = h.opened;
     log = h.log ∙ sym (append-nil us);
@@ -216,8 +216,8 @@ module _ (s : State) (r t : Run) (sends : ℕ → List Down) (ups : ℕ → List
     owns = λ d u k. own_same s us (last_of (Invariant.sessions t) (actor (Invariant.core_of r.world d))) (Invariant.core_of r.world d) (Invariant.issued_by r d) k.done k.coming
         (subst (λ (z : State). Invariant.Own s us (last_of z.sessions (actor (Invariant.core_of r.world d))) (Invariant.core_of r.world d) (Invariant.issued_by r d) k.done k.coming) (sym h.state) k.own);
     stands = λ w k. subst (λ (z : State). Invariant.Stands s z.sessions w) (sym h.state) k;
-    presents = λ d j u e here w k p. subst (λ (z : State). Invariant.Present s (us ++ []) z.sessions (r.given ++ []) d (Invariant.core_of r.world d).session (grown [] here) ((Invariant.conn r.world j).down ++ sends j) (Invariant.link t.world j)) (sym h.state)
+    presents = λ d j u e here w k p. subst (λ (z : State). Invariant.Present s (us ++ []) z.sessions (r.given ++ []) d (Invariant.core_of r.world d).session (grown [] here) ((Invariant.conn r.world j).outbound ++ sends j) (Invariant.link t.world j)) (sym h.state)
         (present_at d j (undo d u) e here w (h.at j d (st.shape.present d j e).owner (undo d u)) p);
-    ups_are = λ d j o u. subst (λ (z : State). Invariant.Ups ((seat r.world d).present ≡ Some j) (Invariant.core_of r.world d).session (Invariant.tried (Invariant.core_of r.world d)) (Invariant.issued_by r d)
-        (last_of z.sessions (actor (Invariant.core_of r.world d))) (Invariant.link t.world j) (ups j)) (sym h.state) (h.ups_are d j o (undo d u));
+    inbounds_are = λ d j o u. subst (λ (z : State). Invariant.Inbounds ((slot r.world d).present ≡ Some j) (Invariant.core_of r.world d).session (Invariant.tried (Invariant.core_of r.world d)) (Invariant.issued_by r d)
+        (last_of z.sessions (actor (Invariant.core_of r.world d))) (Invariant.link t.world j) (inbounds j)) (sym h.state) (h.inbounds_are d j o (undo d u));
   })

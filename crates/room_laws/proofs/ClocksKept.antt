@@ -17,7 +17,7 @@ use Rattle.room_model.specs.Edits.{Edit, EditFault, Made, make, spent, fields_mo
 use Rattle.room_model.specs.Account.{Account, Batch, OpenBatch, Part, Stage, Idle, Dialled, Connected, Synced, issued, last_issued, ends, beyond, shown, clocks, actor, is_on, is_synced, is_some_list, size_of, frame_of_ops, frame_of_event, open_ops, most_bytes}
 use Rattle.room_model.specs.Presence.{kept_names}
 use Rattle.room_model.specs.Calls
-use Rattle.room_model.specs.Comes
+use Rattle.room_model.specs.Receive
 use Rattle.room_model.specs.Sound.{RunsOn, ClocksRunOn}
 use Rattle.room_laws.specs.Clocks.{KeepsClocks}
 use Rattle.room_laws.proofs.Batches.{ends_upto, Runs-append, beyond-append, runs_beyond}
@@ -75,26 +75,26 @@ end_keeps x (Some o) out h p = subst (λ (d : Calls.Done). ClocksRunOn d.account
 
 -- history
 
-presence_keeps : (way : Calls.Way) (x : Account) (entry : List Change) (size : ℕ) (out : Calls.Done) → ClocksRunOn x → Calls.back_presence way x entry size ≡ Ok (Some out) → ClocksRunOn out.account
+presence_keeps : (way : Calls.Direction) (x : Account) (entry : List Change) (size : ℕ) (out : Calls.Done) → ClocksRunOn x → Calls.back_presence way x entry size ≡ Ok (Some out) → ClocksRunOn out.account
 presence_keeps way x entry size out h p =
     subst (λ (d : Calls.Done). ClocksRunOn d.account) (some_is _ _ (under (nat_lt most_bytes size) _ _ _ p)) (issues_more x (Calls.entry_bodies entry) h)
 
-back_sized_keeps : (way : Calls.Way) (x : Account) (entry : List Change) (b : Bool) (fault : Calls.UndoFault) (size : ℕ) (out : Calls.Done)
+back_sized_keeps : (way : Calls.Direction) (x : Account) (entry : List Change) (b : Bool) (fault : Calls.UndoFault) (size : ℕ) (out : Calls.Done)
     → ClocksRunOn x → cond b (Err fault) (Calls.back_presence way x entry size) ≡ Ok (Some out) → ClocksRunOn out.account
 back_sized_keeps way x entry true fault size out h p = cc
 back_sized_keeps way x entry false fault size out h p = presence_keeps way x entry size out h p
 
-clocked_keeps : (way : Calls.Way) (x : Account) (entry : List Change) (bs : List Body) (o : Option ℕ) (out : Calls.Done) → ClocksRunOn x → Calls.back_clocked way x entry bs o ≡ Ok (Some out) → ClocksRunOn out.account
+clocked_keeps : (way : Calls.Direction) (x : Account) (entry : List Change) (bs : List Body) (o : Option ℕ) (out : Calls.Done) → ClocksRunOn x → Calls.back_clocked way x entry bs o ≡ Ok (Some out) → ClocksRunOn out.account
 clocked_keeps way x entry bs (Some last) out h p = cc
 clocked_keeps way x entry bs None out h p =
     let size = size_of (frame_of_ops (ops_from (actor x) (last_issued x + 1) bs)) in
     back_sized_keeps way x entry (is_some_list bs && nat_lt most_bytes size) (Calls.UndoBatchTooLarge size) (Calls.presence_size (Calls.entry_presence x.me entry)) out h p
 
-entry_keeps : (way : Calls.Way) (x : Account) (o : Option (List Change)) (out : Calls.Done) → ClocksRunOn x → Calls.back_entry way x o ≡ Ok (Some out) → ClocksRunOn out.account
+entry_keeps : (way : Calls.Direction) (x : Account) (o : Option (List Change)) (out : Calls.Done) → ClocksRunOn x → Calls.back_entry way x o ≡ Ok (Some out) → ClocksRunOn out.account
 entry_keeps way x None out h p = absurd (none_some out (ok_is _ _ p))
 entry_keeps way x (Some entry) out h p = clocked_keeps way x entry (Calls.entry_bodies entry) (spent (last_issued x + 1) (length (Calls.entry_bodies entry))) out h p
 
-back_keeps : (way : Calls.Way) (x : Account) (o : Option OpenBatch) (out : Calls.Done) → ClocksRunOn x → Calls.back_at way x o ≡ Ok (Some out) → ClocksRunOn out.account
+back_keeps : (way : Calls.Direction) (x : Account) (o : Option OpenBatch) (out : Calls.Done) → ClocksRunOn x → Calls.back_at way x o ≡ Ok (Some out) → ClocksRunOn out.account
 back_keeps way x (Some o) out h p = cc
 back_keeps way x None out h p = entry_keeps way x (Calls.entry_of way x.history) out h p
 
@@ -136,20 +136,20 @@ turned x = record x {
 
 -- messages
 
-took_is : (x : Account) (kind : ℕ) (out y : Comes.Took) (b : Bool) → cond b (Ok out) (Err (Comes.Unexpected kind)) ≡ Ok y → ClocksRunOn out.account → ClocksRunOn y.account
-took_is x kind out y b p h = subst (λ (d : Comes.Took). ClocksRunOn d.account) (over b (Comes.Unexpected kind) out y p) h
+received_is : (x : Account) (kind : ℕ) (out y : Receive.Received) (b : Bool) → cond b (Ok out) (Err (Receive.Unexpected kind)) ≡ Ok y → ClocksRunOn out.account → ClocksRunOn y.account
+received_is x kind out y b p h = subst (λ (d : Receive.Received). ClocksRunOn d.account) (over b (Receive.Unexpected kind) out y p) h
 
-welcome_keeps : (x : Account) (a key : ℕ) (o : Option Resume) (out : Comes.Took) → ClocksRunOn x → Comes.welcomed_as x a key o ≡ Ok out → ClocksRunOn out.account
-welcome_keeps x a key None out h p = subst (λ (d : Comes.Took). ClocksRunOn d.account) (ok_is _ _ p) h
-welcome_keeps x a key (Some s) out h p = subst (λ (d : Comes.Took). ClocksRunOn d.account) (over (s.actor == a) _ _ _ p) h
+welcome_keeps : (x : Account) (a key : ℕ) (o : Option Resume) (out : Receive.Received) → ClocksRunOn x → Receive.welcomed_as x a key o ≡ Ok out → ClocksRunOn out.account
+welcome_keeps x a key None out h p = subst (λ (d : Receive.Received). ClocksRunOn d.account) (ok_is _ _ p) h
+welcome_keeps x a key (Some s) out h p = subst (λ (d : Receive.Received). ClocksRunOn d.account) (over (s.actor == a) _ _ _ p) h
 
-room_keeps : (x : Account) (a key : ℕ) (g : Stage) (out : Comes.Took) → ClocksRunOn x → Comes.room_comes x a key g ≡ Ok out → ClocksRunOn out.account
+room_keeps : (x : Account) (a key : ℕ) (g : Stage) (out : Receive.Received) → ClocksRunOn x → Receive.receive_room x a key g ≡ Ok out → ClocksRunOn out.account
 room_keeps x a key Dialled out h p = welcome_keeps x a key x.session out h p
 room_keeps x a key Idle out h p = cc
 room_keeps x a key Connected out h p = cc
 room_keeps x a key Synced out h p = cc
 
-target_keeps : (x : Account) (a : ℕ) (o : Option ℤ) (patch : List (List ℕ × Value)) → ClocksRunOn x → ClocksRunOn (Comes.presence_taken x a o patch)
+target_keeps : (x : Account) (a : ℕ) (o : Option ℤ) (patch : List (List ℕ × Value)) → ClocksRunOn x → ClocksRunOn (Receive.presence_taken x a o patch)
 target_keeps x a None patch h = h
 target_keeps x a (Some target) patch h = h
 
@@ -159,74 +159,74 @@ pub second_none : (b : Bool) (f : ℕ × ℕ) (o : Option (ℕ × ℕ)) → cond
 second_none true f o p = cc
 second_none false f o p = (refl, p)
 
-load_keeps : (x : Account) (seq last : ℕ) (t : Nodes) (o : Option (ℕ × ℕ)) (out : Comes.Took) → Comes.state_fault x seq last ≡ o → ClocksRunOn x → Comes.load_at x seq last t o ≡ Ok out → ClocksRunOn out.account
+load_keeps : (x : Account) (seq last : ℕ) (t : Nodes) (o : Option (ℕ × ℕ)) (out : Receive.Received) → Receive.state_fault x seq last ≡ o → ClocksRunOn x → Receive.load_at x seq last t o ≡ Ok out → ClocksRunOn out.account
 load_keeps x seq last t (Some f) out q h p = cc
 load_keeps x seq last t None out q h p =
     let later = second_none (nat_lt seq x.n) _ _ q in
     let told = second_none (nat_lt last x.told) _ _ later.1 in
     let le : x.told ≤ last = grind (arith, nat_tests, told.0) in
-    subst (λ (d : Comes.Took). ClocksRunOn d.account) (ok_is _ _ p)
+    subst (λ (d : Receive.Received). ClocksRunOn d.account) (ok_is _ _ p)
     (subst (λ bs. RunsOn last bs) (sym (append-nil (beyond last (issued x)))) (runs_beyond x.told last (issued x) h le))
 
-loaded_keeps : (x : Account) (seq last : ℕ) (o : Option Nodes) (out : Comes.Took) → ClocksRunOn x → Comes.load x seq last o ≡ Ok out → ClocksRunOn out.account
+loaded_keeps : (x : Account) (seq last : ℕ) (o : Option Nodes) (out : Receive.Received) → ClocksRunOn x → Receive.load x seq last o ≡ Ok out → ClocksRunOn out.account
 loaded_keeps x seq last None out h p = cc
-loaded_keeps x seq last (Some t) out h p = load_keeps x seq last t (Comes.state_fault x seq last) out refl h p
+loaded_keeps x seq last (Some t) out h p = load_keeps x seq last t (Receive.state_fault x seq last) out refl h p
 
-part_keeps : (x : Account) (seq last : ℕ) (items : List Value) (more : Bool) (o : Option (ℕ × ℕ)) (out : Comes.Took) → ClocksRunOn x → Comes.part_comes x seq last items more o ≡ Ok out → ClocksRunOn out.account
+part_keeps : (x : Account) (seq last : ℕ) (items : List Value) (more : Bool) (o : Option (ℕ × ℕ)) (out : Receive.Received) → ClocksRunOn x → Receive.receive_part x seq last items more o ≡ Ok out → ClocksRunOn out.account
 part_keeps x seq last items more (Some f) out h p = cc
-part_keeps x seq last items true None out h p = subst (λ (d : Comes.Took). ClocksRunOn d.account) (ok_is _ _ p) h
-part_keeps x seq last items false None out h p = loaded_keeps x seq last (tree_in (Comes.parts_items x.parts ++ items)) out h p
+part_keeps x seq last items true None out h p = subst (λ (d : Receive.Received). ClocksRunOn d.account) (ok_is _ _ p) h
+part_keeps x seq last items false None out h p = loaded_keeps x seq last (tree_in (Receive.parts_items x.parts ++ items)) out h p
 
-state_keeps : (x : Account) (seq last : ℕ) (items : List Value) (more b : Bool) (out : Comes.Took) → ClocksRunOn x
-    → cond b (Err (Comes.Unexpected 200)) (Comes.part_comes x seq last items more (Comes.other_parts x.parts seq last)) ≡ Ok out → ClocksRunOn out.account
+state_keeps : (x : Account) (seq last : ℕ) (items : List Value) (more b : Bool) (out : Receive.Received) → ClocksRunOn x
+    → cond b (Err (Receive.Unexpected 200)) (Receive.receive_part x seq last items more (Receive.other_parts x.parts seq last)) ≡ Ok out → ClocksRunOn out.account
 state_keeps x seq last items more true out h p = cc
-state_keeps x seq last items more false out h p = part_keeps x seq last items more (Comes.other_parts x.parts seq last) out h p
+state_keeps x seq last items more false out h p = part_keeps x seq last items more (Receive.other_parts x.parts seq last) out h p
 
 -- an update: the clock that it tells isn't below `told`
 
 own_later : (a limit c : ℕ) (o : Op) (os : List Op) (r : ℕ) (other own : Bool) → (clock_of o == c + 1) && nat_le (clock_of o) limit ≡ own
-    → ((c : ℕ) → Comes.told_by a limit c os ≡ Ok r → c ≤ r)
-    → cond other (Comes.told_by a limit c os) (cond own (Comes.told_by a limit (c + 1) os) (Err (c, clock_of o))) ≡ Ok r → c ≤ r
+    → ((c : ℕ) → Receive.told_by a limit c os ≡ Ok r → c ≤ r)
+    → cond other (Receive.told_by a limit c os) (cond own (Receive.told_by a limit (c + 1) os) (Err (c, clock_of o))) ≡ Ok r → c ≤ r
 own_later a limit c o os r true own q k p = k c p
 own_later a limit c o os r false true q k p = omega (arith, k (c + 1) p)
 own_later a limit c o os r false false q k p = cc
 
-pub told_later : (a limit : ℕ) (os : List Op) (r : ℕ) (c : ℕ) → Comes.told_by a limit c os ≡ Ok r → c ≤ r
+pub told_later : (a limit : ℕ) (os : List Op) (r : ℕ) (c : ℕ) → Receive.told_by a limit c os ≡ Ok r → c ≤ r
 told_later a limit [] r c p = let e : c ≡ r = cc in omega arith
 told_later a limit (o ∷ os) r c p = own_later a limit c o os r (not (actor_of o == a)) ((clock_of o == c + 1) && nat_le (clock_of o) limit) refl (told_later a limit os r) p
 
-told_keeps : (x : Account) (os : List Op) (t : Nodes) (r : Result ℕ (ℕ × ℕ)) (out : Comes.Took) → Comes.told_by (actor x) (last_issued x) x.told os ≡ r → ClocksRunOn x → Comes.update_told x os t r ≡ Ok out → ClocksRunOn out.account
+told_keeps : (x : Account) (os : List Op) (t : Nodes) (r : Result ℕ (ℕ × ℕ)) (out : Receive.Received) → Receive.told_by (actor x) (last_issued x) x.told os ≡ r → ClocksRunOn x → Receive.update_told x os t r ≡ Ok out → ClocksRunOn out.account
 told_keeps x os t (Err f) out q h p = cc
 told_keeps x os t (Ok told) out q h p =
-    subst (λ (d : Comes.Took). ClocksRunOn d.account) (ok_is _ _ p)
+    subst (λ (d : Receive.Received). ClocksRunOn d.account) (ok_is _ _ p)
     (subst (λ bs. RunsOn told bs) (beyond-append told x.sent x.fresh) (runs_beyond x.told told (issued x) h (told_later (actor x) (last_issued x) os told x.told q)))
 
-update_keeps : (x : Account) (os : List Op) (o : Option Nodes) (out : Comes.Took) → ClocksRunOn x → Comes.update_on x os o ≡ Ok out → ClocksRunOn out.account
+update_keeps : (x : Account) (os : List Op) (o : Option Nodes) (out : Receive.Received) → ClocksRunOn x → Receive.update_on x os o ≡ Ok out → ClocksRunOn out.account
 update_keeps x os None out h p = cc
-update_keeps x os (Some t) out h p = told_keeps x os t (Comes.told_by (actor x) (last_issued x) x.told os) out refl h p
+update_keeps x os (Some t) out h p = told_keeps x os t (Receive.told_by (actor x) (last_issued x) x.told os) out refl h p
 
-numbered_keeps : (x : Account) (os : List Op) (b : Bool) (f : Comes.FrameFault) (out : Comes.Took) → ClocksRunOn x → cond b (Comes.update_on x os x.confirmed) (Err f) ≡ Ok out → ClocksRunOn out.account
+numbered_keeps : (x : Account) (os : List Op) (b : Bool) (f : Receive.FrameFault) (out : Receive.Received) → ClocksRunOn x → cond b (Receive.update_on x os x.confirmed) (Err f) ≡ Ok out → ClocksRunOn out.account
 numbered_keeps x os true f out h p = update_keeps x os x.confirmed out h p
 numbered_keeps x os false f out h p = cc
 
-parts_keeps : (x : Account) (seq : ℕ) (os : List Op) (ps : List Part) (out : Comes.Took) → ClocksRunOn x → Comes.update_synced x seq os ps ≡ Ok out → ClocksRunOn out.account
-parts_keeps x seq os [] out h p = numbered_keeps x os (seq == x.n + 1) (Comes.Gap (x.n + 1) seq) out h p
+parts_keeps : (x : Account) (seq : ℕ) (os : List Op) (ps : List Part) (out : Receive.Received) → ClocksRunOn x → Receive.update_synced x seq os ps ≡ Ok out → ClocksRunOn out.account
+parts_keeps x seq os [] out h p = numbered_keeps x os (seq == x.n + 1) (Receive.Gap (x.n + 1) seq) out h p
 parts_keeps x seq os (q ∷ qs) out h p = cc
 
-stage_keeps : (x : Account) (seq : ℕ) (os : List Op) (g : Stage) (out : Comes.Took) → ClocksRunOn x → Comes.update_comes x seq os g ≡ Ok out → ClocksRunOn out.account
+stage_keeps : (x : Account) (seq : ℕ) (os : List Op) (g : Stage) (out : Receive.Received) → ClocksRunOn x → Receive.receive_update x seq os g ≡ Ok out → ClocksRunOn out.account
 stage_keeps x seq os Synced out h p = parts_keeps x seq os x.parts out h p
 stage_keeps x seq os Idle out h p = cc
 stage_keeps x seq os Dialled out h p = cc
 stage_keeps x seq os Connected out h p = cc
 
-comes_keeps : (x : Account) (m : ServerMsg) (out : Comes.Took) → ClocksRunOn x → Comes.comes x m ≡ Ok out → ClocksRunOn out.account
-comes_keeps x (server.Presence a target patch) out h p = took_is x 100 _ out (is_on x.stage) p (target_keeps x a target patch h)
-comes_keeps x (server.Joined a) out h p = took_is x 101 _ out (is_on x.stage) p h
-comes_keeps x (server.Left a) out h p = took_is x 102 _ out (is_on x.stage) p h
-comes_keeps x (server.Broadcast a e) out h p = took_is x 103 _ out (is_on x.stage) p h
-comes_keeps x (server.RoomState a key users) out h p = room_keeps x a key x.stage out h p
-comes_keeps x (server.State seq last items more) out h p = state_keeps x seq last items more (not (is_on x.stage)) out h p
-comes_keeps x (server.Update seq os) out h p = stage_keeps x seq os x.stage out h p
+receive_keeps : (x : Account) (m : ServerMsg) (out : Receive.Received) → ClocksRunOn x → Receive.receive x m ≡ Ok out → ClocksRunOn out.account
+receive_keeps x (server.Presence a target patch) out h p = received_is x 100 _ out (is_on x.stage) p (target_keeps x a target patch h)
+receive_keeps x (server.Joined a) out h p = received_is x 101 _ out (is_on x.stage) p h
+receive_keeps x (server.Left a) out h p = received_is x 102 _ out (is_on x.stage) p h
+receive_keeps x (server.Broadcast a e) out h p = received_is x 103 _ out (is_on x.stage) p h
+receive_keeps x (server.RoomState a key users) out h p = room_keeps x a key x.stage out h p
+receive_keeps x (server.State seq last items more) out h p = state_keeps x seq last items more (not (is_on x.stage)) out h p
+receive_keeps x (server.Update seq os) out h p = stage_keeps x seq os x.stage out h p
 
 pub keeps_clocks : KeepsClocks
 keeps_clocks = record {
@@ -244,5 +244,5 @@ keeps_clocks = record {
   clears = λ x h. h;
   flushed = λ x h. flush_keeps x (turned x) (not (is_on x.stage)) h (synced_keeps x (is_synced x.stage) h);
   resent = λ x h. flush_keeps (record x { sent = issued x; fresh = [] }) x (is_synced x.stage) (all_sent x h) h;
-  comes = comes_keeps;
+  receive = receive_keeps;
 }

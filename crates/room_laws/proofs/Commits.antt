@@ -14,9 +14,9 @@ use Rattle.room_msg.specs.declared.messages.ServerMsg.TheVariants as server
 use Rattle.room_nodes.specs.Steps.{settle_all}
 use Rattle.room_log.specs.Log.{State, Session, Update, Updated, last_after, last_from, last_of, last_in, session_of, with_last, with_last_at, updated, updates_of, ops_of}
 use Rattle.room_model.specs.Account.{Batch, actor_in}
-use Rattle.room_model.specs.Server.{Server, Down, Message, Link, Up, has_fetched, to_each}
-use Rattle.room_model.specs.World.{World, Conn, Host, Running, Fuse, state_in, links_of, deliver, stopped}
-use Rattle.room_model.specs.Run.{Run, seat, seat_in, all_given, IsUndisturbed}
+use Rattle.room_model.specs.Server.{Server, Outbound, Message, Link, Inbound, has_fetched, to_each}
+use Rattle.room_model.specs.World.{World, Conn, Host, Running, Fuse, state_in, links_of, deliver, stopped, slot, slot_in}
+use Rattle.room_model.specs.Run.{Run, all_given, IsUndisturbed}
 use Rattle.room_laws.specs.Ledger.{Silent}
 use Rattle.room_laws.specs.Core.{actor}
 use Rattle.room_laws.specs.Invariant
@@ -29,8 +29,8 @@ use Rattle.room_laws.proofs.Owns.{own_other, own_next}
 use Rattle.room_laws.proofs.RunSteps.{updates_of-append, given_before}
 use Rattle.room_laws.proofs.Served.{served, ClientOf}
 use Rattle.room_laws.proofs.Sent.{present_news}
-use Rattle.room_laws.proofs.Calm.{ups_after}
-use Rattle.room_laws.proofs.Leaving.{delivered, ups_passed}
+use Rattle.room_laws.proofs.Calm.{inbounds_after}
+use Rattle.room_laws.proofs.Leaving.{delivered, inbounds_passed}
 use Rattle.room_laws.proofs.Facts.{some_is, none_some}
 
 -- sessions
@@ -86,12 +86,12 @@ silent_push : (a : ℕ) (us : List Update) (u : Update) → (u.actor ≡ a → �
 silent_push a [] u e h = record { other = e; more = tt }
 silent_push a (v ∷ us) u e h = record { other = h.other; more = silent_push a us u e h.more }
 
--- the log went on by another way: queues up go on standing
-pub ups_raise : (now : Type 0) (w : Option Resume) (tried : ℕ) (all : List Batch) (c d : ℕ) (l : Option Link) (q : List Up) → c ≤ d → Invariant.Ups now w tried all c l q → Invariant.Ups now w tried all d l q
-ups_raise now w tried all c d None q l u = u
-ups_raise now w tried all c d (Some k) q l u = at k.actor u
+-- the log went on by another way: inbound queues go on standing
+pub inbounds_raise : (now : Type 0) (w : Option Resume) (tried : ℕ) (all : List Batch) (c d : ℕ) (l : Option Link) (q : List Inbound) → c ≤ d → Invariant.Inbounds now w tried all c l q → Invariant.Inbounds now w tried all d l q
+inbounds_raise now w tried all c d None q l u = u
+inbounds_raise now w tried all c d (Some k) q l u = at k.actor u
   where
-    at : (a : Option ℕ) → Invariant.UpAt now w tried all c a q → Invariant.UpAt now w tried all d a q
+    at : (a : Option ℕ) → Invariant.InboundAt now w tried all c a q → Invariant.InboundAt now w tried all d a q
     at None u = record { resume = u.resume; is = u.is; old = u.old; current = u.current }
     at (Some a) u =
         let r = order_raise a (actor_in w) all c d q u.reach l u.order in
@@ -106,18 +106,18 @@ pub record Next (s : State) (r : Run) (u : Update) (d : ℕ) (h : ClientOf s r d
   pub first : u.first ≡ batch.first
   pub bodies : u.bodies ≡ settle_all (state_in r.world.host).tree batch.bodies
 
-module _ (s : State) (r : Run) (v : Server) (k : ℕ) (l : Link) (u : Update) (x : Session) (qs : FinMap nat_cmp Conn) (ups : ℕ → List Up) (fuse : Option Fuse) (st : Invariant.Inv s r)
+module _ (s : State) (r : Run) (v : Server) (k : ℕ) (l : Link) (u : Update) (x : Session) (qs : FinMap nat_cmp Conn) (inbounds : ℕ → List Inbound) (fuse : Option Fuse) (st : Invariant.Inv s r)
     (runs : r.world.host ≡ Running v) (attached : get v.links k ≡ Some l) (named : l.actor ≡ Some u.actor)
     (known : session_of v.state.sessions u.actor ≡ Some x) (first : u.first ≡ x.last + 1) (some : 0 < length u.bodies)
     (spelled : tree_in (items_of (updated v.state u).tree) ≡ Some (updated v.state u).tree)
-    (conns : (j : ℕ) → Invariant.conn_in (get qs j) ≡ record (Invariant.conn r.world j) { up = ups j })
+    (conns : (j : ℕ) → Invariant.conn_in (get qs j) ≡ record (Invariant.conn r.world j) { inbound = inbounds j })
     (there : (j : ℕ) → is_some (get r.world.conns j) ≡ true → is_some (get qs j) ≡ true)
-    (else : (j : ℕ) → (j ≡ k → ⊥) → ups j ≡ (Invariant.conn r.world j).up)
-    (unopened : (j : ℕ) → r.world.opened < j → ups j ≡ [])
+    (else : (j : ℕ) → (j ≡ k → ⊥) → inbounds j ≡ (Invariant.conn r.world j).inbound)
+    (unopened : (j : ℕ) → r.world.opened < j → inbounds j ≡ [])
     (owned : (d : ℕ) → (Invariant.conn r.world k).owner ≡ Some d → IsUndisturbed r d → (h : ClientOf s r d) → Next s r u d h)
-    (popped : (d : ℕ) → (Invariant.conn r.world k).owner ≡ Some d → IsUndisturbed r d → Invariant.Ups ((seat r.world d).present ≡ Some k) (Invariant.core_of r.world d).session (Invariant.tried (Invariant.core_of r.world d)) (Invariant.issued_by r d)
-    (last_of (updated v.state u).sessions (actor (Invariant.core_of r.world d))) (Some l) (ups k)) where
-  abbrev outs : List (ℕ × Down)
+    (popped : (d : ℕ) → (Invariant.conn r.world k).owner ≡ Some d → IsUndisturbed r d → Invariant.Inbounds ((slot r.world d).present ≡ Some k) (Invariant.core_of r.world d).session (Invariant.tried (Invariant.core_of r.world d)) (Invariant.issued_by r d)
+    (last_of (updated v.state u).sessions (actor (Invariant.core_of r.world d))) (Some l) (inbounds k)) where
+  abbrev outs : List (ℕ × Outbound)
   outs = to_each has_fetched (Message (server.Update (v.state.count + 1) (ops_of u))) (entries v.links)
 
   abbrev t : Run
@@ -144,8 +144,8 @@ module _ (s : State) (r : Run) (v : Server) (k : ℕ) (l : Link) (u : Update) (x
   sends_are : (j : ℕ) → mine j outs ≡ passes has_fetched (Message (server.Update (v.state.count + 1) (ops_of u))) (get v.links j)
   sends_are j = to_each_of has_fetched (Message (server.Update (v.state.count + 1) (ops_of u))) j v.links
 
-  ups_same : (j : ℕ) → ups_after (ups j) (mine j outs) ≡ ups j
-  ups_same j = ap (λ ms. ups_after (ups j) ms) (sends_are j) ∙ ups_passed (ups j) has_fetched (server.Update (v.state.count + 1) (ops_of u)) (get v.links j)
+  inbounds_same : (j : ℕ) → inbounds_after (inbounds j) (mine j outs) ≡ inbounds j
+  inbounds_same j = ap (λ ms. inbounds_after (inbounds j) ms) (sends_are j) ∙ inbounds_passed (inbounds j) has_fetched (server.Update (v.state.count + 1) (ops_of u)) (get v.links j)
 
   abbrev ts : List Session
   ts = (updated v.state u).sessions
@@ -159,9 +159,9 @@ module _ (s : State) (r : Run) (v : Server) (k : ℕ) (l : Link) (u : Update) (x
   last_was : last_of v.state.sessions u.actor ≡ x.last
   last_was = ap last_in known
 
-  last_up : (b : ℕ) → (b ≡ u.actor) ⊎ (b ≡ u.actor → ⊥) → last_of v.state.sessions b ≤ last_of ts b
-  last_up b (inl e) = rw e (omega (arith, last_here, last_was, first, some))
-  last_up b (inr e) = omega (arith, last_else b e)
+  last_inbound : (b : ℕ) → (b ≡ u.actor) ⊎ (b ≡ u.actor → ⊥) → last_of v.state.sessions b ≤ last_of ts b
+  last_inbound b (inl e) = rw e (omega (arith, last_here, last_was, first, some))
+  last_inbound b (inr e) = omega (arith, last_else b e)
 
   lasts_at : (b : ℕ) → (b ≡ u.actor) ⊎ (b ≡ u.actor → ⊥) → last_of ts b ≡ last_after b (last_of s.sessions b) (us ++ u ∷ [])
   lasts_at b (inl e) = rw (last_after-append b (last_of s.sessions b) us (u ∷ [])) (rw (eq-eqb u.actor b (sym e)) (ap (last_of ts) e ∙ last_here))
@@ -217,13 +217,13 @@ module _ (s : State) (r : Run) (v : Server) (k : ℕ) (l : Link) (u : Update) (x
       at (inl e) = absurd (not_here e)
       at (inr e) = record { stands = stands_at w (inr e) n.stands; unused = last_else w.actor e ∙ n.unused; silent = silent_push w.actor us u (λ i. e (sym i)) n.silent }
 
-  ups_at : (d j : ℕ) → (j ≡ k) ⊎ (j ≡ k → ⊥) → (Invariant.conn r.world j).owner ≡ Some d → IsUndisturbed r d
-      → Invariant.Ups ((seat r.world d).present ≡ Some j) (Invariant.core_of r.world d).session (Invariant.tried (Invariant.core_of r.world d)) (Invariant.issued_by r d)
-      (last_of ts (actor (Invariant.core_of r.world d))) (get v.links j) (ups j)
-  ups_at d j (inl e) o g = rw e (rw attached (popped d (subst (λ n. (Invariant.conn r.world n).owner ≡ Some d) e o) g))
-  ups_at d j (inr e) o g = rw (else j e, sym (link_is j)) (ups_raise ((seat r.world d).present ≡ Some j) (Invariant.core_of r.world d).session (Invariant.tried (Invariant.core_of r.world d)) (Invariant.issued_by r d)
-      (last_of (Invariant.sessions r) (actor (Invariant.core_of r.world d))) (last_of ts (actor (Invariant.core_of r.world d))) (Invariant.link r.world j) (Invariant.conn r.world j).up
-      (rw (ap (λ (z : State). last_of z.sessions (actor (Invariant.core_of r.world d))) state_is) (last_up (actor (Invariant.core_of r.world d)) (cases_eq (actor (Invariant.core_of r.world d)) u.actor))) (st.ups d j o g))
+  inbounds_at : (d j : ℕ) → (j ≡ k) ⊎ (j ≡ k → ⊥) → (Invariant.conn r.world j).owner ≡ Some d → IsUndisturbed r d
+      → Invariant.Inbounds ((slot r.world d).present ≡ Some j) (Invariant.core_of r.world d).session (Invariant.tried (Invariant.core_of r.world d)) (Invariant.issued_by r d)
+      (last_of ts (actor (Invariant.core_of r.world d))) (get v.links j) (inbounds j)
+  inbounds_at d j (inl e) o g = rw e (rw attached (popped d (subst (λ n. (Invariant.conn r.world n).owner ≡ Some d) e o) g))
+  inbounds_at d j (inr e) o g = rw (else j e, sym (link_is j)) (inbounds_raise ((slot r.world d).present ≡ Some j) (Invariant.core_of r.world d).session (Invariant.tried (Invariant.core_of r.world d)) (Invariant.issued_by r d)
+      (last_of (Invariant.sessions r) (actor (Invariant.core_of r.world d))) (last_of ts (actor (Invariant.core_of r.world d))) (Invariant.link r.world j) (Invariant.conn r.world j).inbound
+      (rw (ap (λ (z : State). last_of z.sessions (actor (Invariant.core_of r.world d))) state_is) (last_inbound (actor (Invariant.core_of r.world d)) (cases_eq (actor (Invariant.core_of r.world d)) u.actor))) (st.inbounds d j o g))
 
   pub logged_after : Invariant.Logged s (us ++ u ∷ []) (updated v.state u)
   logged_after = record {
@@ -240,7 +240,7 @@ module _ (s : State) (r : Run) (v : Server) (k : ℕ) (l : Link) (u : Update) (x
   pub keeps_commit_stopped : (w : World) → w.clients ≡ r.world.clients → w.opened ≡ r.world.opened → w.conns ≡ qs
       → Invariant.Inv s (record r { world = stopped w (updated v.state u); log = r.log ++ Updated u ∷ [] })
   keeps_commit_stopped w c o q = keeps_stopping s r (record r { world = stopped w (updated v.state u); log = r.log ++ Updated u ∷ [] }) (u ∷ []) st (record {
-    seats = λ d. ap (λ m. seat_in (get m d)) c;
+    slots = λ d. ap (λ m. slot_in (get m d)) c;
     batches = λ d. refl;
     opened = o;
     log = updates_of-append r.log (Updated u ∷ []);
@@ -254,16 +254,16 @@ module _ (s : State) (r : Run) (v : Server) (k : ℕ) (l : Link) (u : Update) (x
   })
 
   pub keeps_commit : Invariant.Inv s t
-  keeps_commit = served s r t (u ∷ []) [] (λ j. mine j outs) (λ j. ups_after (ups j) (mine j outs)) st (record {
-    seats = λ d. refl;
+  keeps_commit = served s r t (u ∷ []) [] (λ j. mine j outs) (λ j. inbounds_after (inbounds j) (mine j outs)) st (record {
+    slots = λ d. refl;
     batches = λ d. refl;
     opened = refl;
     log = updates_of-append r.log (Updated u ∷ []);
     given_is = sym (append-nil r.given);
-    conns = λ j. delivered r qs ups outs j (conns j);
+    conns = λ j. delivered r qs inbounds outs j (conns j);
     there = λ j e. deliver_there qs outs j (there j e);
     hosts = hosts_after (subst Invariant.Hosts runs st.shape.hosts);
-    unopened = λ j e. ups_same j ∙ unopened j e;
+    unopened = λ j e. inbounds_same j ∙ unopened j e;
     attached = λ j n e. (n, link_is j ∙ e);
     logged = logged_after;
     given = λ j a n e f d g. st.given j a n (link_is j ∙ e) f d (undo d a g);
@@ -273,11 +273,11 @@ module _ (s : State) (r : Run) (v : Server) (k : ℕ) (l : Link) (u : Update) (x
     nobody = λ c. refl;
     owns = λ d g h. owns_at d (undo d (actor (Invariant.core_of r.world d)) g) h (cases_eq u.actor (actor (Invariant.core_of r.world d)));
     stands = λ w h. stands_at w (cases_eq w.actor u.actor) (subst (λ (z : State). Invariant.Stands s z.sessions w) state_is h);
-    presents = λ d j g e here w h p. rw (sends_are j) (present_news s us v.state.sessions r.given [] d (Invariant.core_of r.world d).session here (Invariant.conn r.world j).down ts u (v.state.count + 1) (get v.links j)
+    presents = λ d j g e here w h p. rw (sends_are j) (present_news s us v.state.sessions r.given [] d (Invariant.core_of r.world d).session here (Invariant.conn r.world j).outbound ts u (v.state.count + 1) (get v.links j)
         (stays d) w (ap (λ i. i + 1) logged.count)
-        (subst (λ (o : Option Link). Invariant.Present s us v.state.sessions r.given d (Invariant.core_of r.world d).session here (Invariant.conn r.world j).down o) (link_is j)
-        (subst (λ (z : State). Invariant.Present s us z.sessions r.given d (Invariant.core_of r.world d).session here (Invariant.conn r.world j).down (Invariant.link r.world j)) state_is p)));
-    ups_are = λ d j o g. rw (ups_same j) (ups_at d j (cases_eq j k) o (undo d (actor (Invariant.core_of r.world d)) g));
+        (subst (λ (o : Option Link). Invariant.Present s us v.state.sessions r.given d (Invariant.core_of r.world d).session here (Invariant.conn r.world j).outbound o) (link_is j)
+        (subst (λ (z : State). Invariant.Present s us z.sessions r.given d (Invariant.core_of r.world d).session here (Invariant.conn r.world j).outbound (Invariant.link r.world j)) state_is p)));
+    inbounds_are = λ d j o g. rw (inbounds_same j) (inbounds_at d j (cases_eq j k) o (undo d (actor (Invariant.core_of r.world d)) g));
   })
     where
       hosts_after : Invariant.Hosts (Running v) → Invariant.Hosts (Running (record v { state = updated v.state u }))

@@ -6,42 +6,42 @@ use Rattle.std.specs.FinMap.{get}
 use Rattle.room_msg.specs.declared.messages.Resume.{Resume}
 use Rattle.room_log.specs.Log.{State, last_of, updates_of}
 use Rattle.room_model.specs.Account.{Batch, Idle, Synced, actor_in}
-use Rattle.room_model.specs.Server.{Link, Up}
-use Rattle.room_model.specs.World.{Host, Conn, Seat, state_in, links_of}
-use Rattle.room_model.specs.Run.{Run, seat, all_given, IsUndisturbed}
+use Rattle.room_model.specs.Server.{Link, Inbound}
+use Rattle.room_model.specs.World.{Host, Conn, Slot, state_in, links_of, slot}
+use Rattle.room_model.specs.Run.{Run, all_given, IsUndisturbed}
 use Rattle.room_laws.specs.Core.{Core, core, actor}
 use Rattle.room_laws.specs.Invariant
 use Rattle.room_laws.proofs.Maps.{cut}
 use Rattle.room_laws.proofs.Owns.{off, own_off}
-use Rattle.room_laws.proofs.Keep.{Undisturbed, Mine, Still, changed, ups_as}
+use Rattle.room_laws.proofs.Keep.{Undisturbed, Mine, Still, changed, inbounds_as}
 use Rattle.room_laws.proofs.Facts.{some_is, none_some, true_false}
 
 pub idle_synced : Idle ≡ Synced → ⊥
 idle_synced e = cc
 
--- another session's clocks aside, a queue up goes on standing where what is sent on it counts no more
-pub ups_idle : (now : Type 0) (w : Option Resume) (tried tried' : ℕ) (all : List Batch) (last : ℕ) (l : Option Link) (q : List Up) → (now → ⊥)
-    → Invariant.Ups ⊥ w tried all last l q → Invariant.Ups now w tried' all last l q
-ups_idle now w tried tried' all last None q f h = h
-ups_idle now w tried tried' all last (Some l) q f h = at_actor l.actor h
+-- another session's clocks aside, a inbound queue goes on standing where what is sent on it counts no more
+pub inbounds_idle : (now : Type 0) (w : Option Resume) (tried tried' : ℕ) (all : List Batch) (last : ℕ) (l : Option Link) (q : List Inbound) → (now → ⊥)
+    → Invariant.Inbounds ⊥ w tried all last l q → Invariant.Inbounds now w tried' all last l q
+inbounds_idle now w tried tried' all last None q f h = h
+inbounds_idle now w tried tried' all last (Some l) q f h = at_actor l.actor h
   where
-    at_actor : (a : Option ℕ) → Invariant.UpAt ⊥ w tried all last a q → Invariant.UpAt now w tried' all last a q
+    at_actor : (a : Option ℕ) → Invariant.InboundAt ⊥ w tried all last a q → Invariant.InboundAt now w tried' all last a q
     at_actor None u = record { resume = u.resume; is = u.is; old = u.old; current = λ n. absurd (f n) }
     at_actor (Some a) u = record { some = u.some; reach = u.reach; order = u.order; sent = λ n. absurd (f n) }
 
-pub ups_any : (now : Type 0) (w : Option Resume) (tried : ℕ) (all : List Batch) (last : ℕ) (l : Option Link) (q : List Up)
-    → Invariant.Ups now w tried all last l q → Invariant.Ups ⊥ w tried all last l q
-ups_any now w tried all last l q h = ups_as now ⊥ w w tried tried all all last last l l q q (λ n. absurd n) refl refl refl refl refl refl h
+pub inbounds_any : (now : Type 0) (w : Option Resume) (tried : ℕ) (all : List Batch) (last : ℕ) (l : Option Link) (q : List Inbound)
+    → Invariant.Inbounds now w tried all last l q → Invariant.Inbounds ⊥ w tried all last l q
+inbounds_any now w tried all last l q h = inbounds_as now ⊥ w w tried tried all all last last l l q q (λ n. absurd n) refl refl refl refl refl refl h
 
-pub record CutOff (r t : Run) (c : ℕ) (y : Seat) : Type 0 where
+pub record CutOff (r t : Run) (c : ℕ) (y : Slot) : Type 0 where
   pub host : t.world.host ≡ r.world.host
   pub opened : t.world.opened ≡ r.world.opened
-  pub seat_is : seat t.world c ≡ y
-  pub seats : (d : ℕ) → (d ≡ c → ⊥) → seat t.world d ≡ seat r.world d
+  pub slot_is : slot t.world c ≡ y
+  pub slots : (d : ℕ) → (d ≡ c → ⊥) → slot t.world d ≡ slot r.world d
   pub none : y.present ≡ None
   pub lost : core y.account ≡ off Idle (Invariant.core_of r.world c)
-  pub here : (k : ℕ) → (seat r.world c).present ≡ Some k → Invariant.conn t.world k ≡ cut (Invariant.conn r.world k)
-  pub else : (j : ℕ) → ((seat r.world c).present ≡ Some j → ⊥) → Invariant.conn t.world j ≡ Invariant.conn r.world j
+  pub here : (k : ℕ) → (slot r.world c).present ≡ Some k → Invariant.conn t.world k ≡ cut (Invariant.conn r.world k)
+  pub else : (j : ℕ) → ((slot r.world c).present ≡ Some j → ⊥) → Invariant.conn t.world j ≡ Invariant.conn r.world j
   pub there : (j : ℕ) → is_some (get r.world.conns j) ≡ true → is_some (get t.world.conns j) ≡ true
   pub log : updates_of t.log ≡ updates_of r.log
   pub given : t.given ≡ r.given
@@ -52,40 +52,40 @@ pub is_present : (o : Option ℕ) (j : ℕ) → (o ≡ Some j) ⊎ (o ≡ Some j
 is_present None j = inr (λ e. none_some j e)
 is_present (Some k) j = ⊎_elim (λ e. inl (ap Some e)) (λ e. inr (λ i. e (some_is k j i))) (cases_eq k j)
 
-module _ (s : State) (r t : Run) (c : ℕ) (y : Seat) (st : Invariant.Inv s r) (h : CutOff r t c y) where
+module _ (s : State) (r t : Run) (c : ℕ) (y : Slot) (st : Invariant.Inv s r) (h : CutOff r t c y) where
   link_same : (j : ℕ) → Invariant.link t.world j ≡ Invariant.link r.world j
   link_same j = ap (λ (g : Host). get (links_of g) j) h.host
 
   abbrev At : ℕ → Type 0
-  At j = ((seat r.world c).present ≡ Some j) ⊎ ((seat r.world c).present ≡ Some j → ⊥)
+  At j = ((slot r.world c).present ≡ Some j) ⊎ ((slot r.world c).present ≡ Some j → ⊥)
 
   at : (j : ℕ) → At j
-  at j = is_present (seat r.world c).present j
+  at j = is_present (slot r.world c).present j
 
   owner_at : (j : ℕ) → At j → (Invariant.conn t.world j).owner ≡ (Invariant.conn r.world j).owner
   owner_at j (inl e) = ap (λ (q : Conn). q.owner) (h.here j e)
   owner_at j (inr e) = ap (λ (q : Conn). q.owner) (h.else j e)
 
-  up_at : (j : ℕ) → At j → (Invariant.conn t.world j).up ≡ (Invariant.conn r.world j).up
-  up_at j (inl e) = ap (λ (q : Conn). q.up) (h.here j e)
-  up_at j (inr e) = ap (λ (q : Conn). q.up) (h.else j e)
+  inbound_at : (j : ℕ) → At j → (Invariant.conn t.world j).inbound ≡ (Invariant.conn r.world j).inbound
+  inbound_at j (inl e) = ap (λ (q : Conn). q.inbound) (h.here j e)
+  inbound_at j (inr e) = ap (λ (q : Conn). q.inbound) (h.else j e)
 
-  gone : (seat t.world c).present ≡ None
-  gone = ap (λ (z : Seat). z.present) h.seat_is ∙ h.none
+  gone : (slot t.world c).present ≡ None
+  gone = ap (λ (z : Slot). z.present) h.slot_is ∙ h.none
 
-  present_at : (d j : ℕ) → (d ≡ c) ⊎ (d ≡ c → ⊥) → At j → (seat t.world d).present ≡ Some j → Invariant.Open (Invariant.conn t.world j) d
-  present_at d j (inl e) a i = absurd (none_some j (sym gone ∙ subst (λ n. (seat t.world n).present ≡ Some j) e i))
-  present_at d j (inr e) (inl a) i = absurd (e (some_is d c (sym (st.shape.present d j (ap (λ (z : Seat). z.present) (sym (h.seats d e)) ∙ i)).owner ∙ (st.shape.present c j a).owner)))
-  present_at d j (inr e) (inr a) i = rw (h.else j a) (st.shape.present d j (ap (λ (z : Seat). z.present) (sym (h.seats d e)) ∙ i))
+  present_at : (d j : ℕ) → (d ≡ c) ⊎ (d ≡ c → ⊥) → At j → (slot t.world d).present ≡ Some j → Invariant.ListensFor (Invariant.conn t.world j) d
+  present_at d j (inl e) a i = absurd (none_some j (sym gone ∙ subst (λ n. (slot t.world n).present ≡ Some j) e i))
+  present_at d j (inr e) (inl a) i = absurd (e (some_is d c (sym (st.shape.present d j (ap (λ (z : Slot). z.present) (sym (h.slots d e)) ∙ i)).owner ∙ (st.shape.present c j a).owner)))
+  present_at d j (inr e) (inr a) i = rw (h.else j a) (st.shape.present d j (ap (λ (z : Slot). z.present) (sym (h.slots d e)) ∙ i))
 
-  heard_at : (d j : ℕ) → (d ≡ c) ⊎ (d ≡ c → ⊥) → At j → Invariant.Open (Invariant.conn t.world j) d → (seat t.world d).present ≡ Some j
+  heard_at : (d j : ℕ) → (d ≡ c) ⊎ (d ≡ c → ⊥) → At j → Invariant.ListensFor (Invariant.conn t.world j) d → (slot t.world d).present ≡ Some j
   heard_at d j e (inl a) o = absurd (true_false (sym o.listens ∙ ap (λ (q : Conn). q.listens) (h.here j a)))
-  heard_at d j (inl e) (inr a) o = absurd (a (st.shape.heard c j (subst (λ n. Invariant.Open (Invariant.conn r.world j) n) e (subst (λ (q : Conn). Invariant.Open q d) (h.else j a) o))))
-  heard_at d j (inr e) (inr a) o = ap (λ (z : Seat). z.present) (h.seats d e) ∙ st.shape.heard d j (subst (λ (q : Conn). Invariant.Open q d) (h.else j a) o)
+  heard_at d j (inl e) (inr a) o = absurd (a (st.shape.heard c j (subst (λ n. Invariant.ListensFor (Invariant.conn r.world j) n) e (subst (λ (q : Conn). Invariant.ListensFor q d) (h.else j a) o))))
+  heard_at d j (inr e) (inr a) o = ap (λ (z : Slot). z.present) (h.slots d e) ∙ st.shape.heard d j (subst (λ (q : Conn). Invariant.ListensFor q d) (h.else j a) o)
 
-  deaf_at : (j : ℕ) → At j → (Invariant.conn t.world j).listens ≡ false → (Invariant.conn t.world j).down ≡ []
-  deaf_at j (inl e) i = ap (λ (q : Conn). q.down) (h.here j e)
-  deaf_at j (inr e) i = ap (λ (q : Conn). q.down) (h.else j e) ∙ st.shape.deaf j (sym (ap (λ (q : Conn). q.listens) (h.else j e)) ∙ i)
+  deaf_at : (j : ℕ) → At j → (Invariant.conn t.world j).listens ≡ false → (Invariant.conn t.world j).outbound ≡ []
+  deaf_at j (inl e) i = ap (λ (q : Conn). q.outbound) (h.here j e)
+  deaf_at j (inr e) i = ap (λ (q : Conn). q.outbound) (h.else j e) ∙ st.shape.deaf j (sym (ap (λ (q : Conn). q.listens) (h.else j e)) ∙ i)
 
   unopened_at : (j : ℕ) → At j → r.world.opened < j → Invariant.conn t.world j ≡ Invariant.no_conn
   unopened_at j (inl e) i = absurd (none_some c (sym (ap (λ (q : Conn). q.owner) (st.shape.unopened j i)) ∙ (st.shape.present c j e).owner))
@@ -109,12 +109,12 @@ module _ (s : State) (r t : Run) (c : ℕ) (y : Seat) (st : Invariant.Inv s r) (
         coming = k.coming;
         own = own_off s (updates_of r.log) (last_of (Invariant.sessions r) (actor (Invariant.core_of r.world c))) (Invariant.core_of r.world c) (Invariant.issued_by r c) k.done k.coming Idle idle_synced k.own;
         stands = k.stands;
-        seated = record { idle = refl; bare = refl };
+        standing = record { idle = refl; bare = refl };
       }
 
   pub keeps_cut : Invariant.Inv s t
   keeps_cut = changed r t c y (Invariant.issued_by r c) s st (record {
-    seat_is = h.seat_is;
+    slot_is = h.slot_is;
     batches_are = h.batches c;
     shape = record {
       hosts = subst Invariant.Hosts (sym h.host) st.shape.hosts;
@@ -128,25 +128,25 @@ module _ (s : State) (r t : Run) (c : ℕ) (y : Seat) (st : Invariant.Inv s r) (
     log = h.log;
     state = ap state_in h.host;
     given = h.given;
-    seats = h.seats;
+    slots = h.slots;
     batches = λ d e. h.batches d;
     conns = λ j. conns_at j (at j);
     links = λ j a l e i. (l, sym (link_same j) ∙ e, i, owner_at j (at j));
     client = λ u. rw (h.none, h.lost) (cut_client (before u));
-    ups = λ j o u. ups_after j o (before u);
+    inbounds = λ j o u. inbounds_after j o (before u);
   })
     where
-      ups_after : (j : ℕ) → (Invariant.conn t.world j).owner ≡ Some c → IsUndisturbed r c
-          → Invariant.Ups (y.present ≡ Some j) (y.account).session (Invariant.tried (core y.account)) (Invariant.issued_by r c)
-          (last_of (Invariant.sessions r) (actor (core y.account))) (Invariant.link t.world j) (Invariant.conn t.world j).up
-      ups_after j o u =
+      inbounds_after : (j : ℕ) → (Invariant.conn t.world j).owner ≡ Some c → IsUndisturbed r c
+          → Invariant.Inbounds (y.present ≡ Some j) (y.account).session (Invariant.tried (core y.account)) (Invariant.issued_by r c)
+          (last_of (Invariant.sessions r) (actor (core y.account))) (Invariant.link t.world j) (Invariant.conn t.world j).inbound
+      inbounds_after j o u =
           let x = Invariant.core_of r.world c in
           let last = last_of (Invariant.sessions r) (actor x) in
-          let old = ups_any ((seat r.world c).present ≡ Some j) x.session (Invariant.tried x) (Invariant.issued_by r c) last (Invariant.link r.world j) (Invariant.conn r.world j).up
-          (st.ups c j (sym (owner_at j (at j)) ∙ o) u) in
-          let new = ups_idle (None ≡ Some j) x.session (Invariant.tried x) (Invariant.tried (off Idle x)) (Invariant.issued_by r c) last (Invariant.link r.world j) (Invariant.conn r.world j).up (λ n. none_some j n) old in
-          subst (λ (p : Option ℕ). Invariant.Ups (p ≡ Some j) (y.account).session (Invariant.tried (core y.account)) (Invariant.issued_by r c)
-          (last_of (Invariant.sessions r) (actor (core y.account))) (Invariant.link t.world j) (Invariant.conn t.world j).up) (sym h.none)
-          (subst (λ (z : Core). Invariant.Ups (None ≡ Some j) z.session (Invariant.tried z) (Invariant.issued_by r c)
-          (last_of (Invariant.sessions r) (actor z)) (Invariant.link t.world j) (Invariant.conn t.world j).up) (sym h.lost)
-          (rw (link_same j, up_at j (at j)) new))
+          let old = inbounds_any ((slot r.world c).present ≡ Some j) x.session (Invariant.tried x) (Invariant.issued_by r c) last (Invariant.link r.world j) (Invariant.conn r.world j).inbound
+          (st.inbounds c j (sym (owner_at j (at j)) ∙ o) u) in
+          let new = inbounds_idle (None ≡ Some j) x.session (Invariant.tried x) (Invariant.tried (off Idle x)) (Invariant.issued_by r c) last (Invariant.link r.world j) (Invariant.conn r.world j).inbound (λ n. none_some j n) old in
+          subst (λ (p : Option ℕ). Invariant.Inbounds (p ≡ Some j) (y.account).session (Invariant.tried (core y.account)) (Invariant.issued_by r c)
+          (last_of (Invariant.sessions r) (actor (core y.account))) (Invariant.link t.world j) (Invariant.conn t.world j).inbound) (sym h.none)
+          (subst (λ (z : Core). Invariant.Inbounds (None ≡ Some j) z.session (Invariant.tried z) (Invariant.issued_by r c)
+          (last_of (Invariant.sessions r) (actor z)) (Invariant.link t.world j) (Invariant.conn t.world j).inbound) (sym h.lost)
+          (rw (link_same j, inbound_at j (at j)) new))

@@ -6,9 +6,9 @@ use Rattle.std.specs.FinMap.{get, insert}
 use Rattle.room_msg.specs.declared.messages.Resume.{Resume}
 use Rattle.room_log.specs.Log.{State, last_of, updates_of}
 use Rattle.room_model.specs.Account.{Batch, Dialled, Synced, actor_in}
-use Rattle.room_model.specs.Server.{Link, Up, Server, opened_at}
-use Rattle.room_model.specs.World.{room, Host, Running, Stopped, Conn, Seat, state_in, links_of, opened_host}
-use Rattle.room_model.specs.Run.{Run, seat, all_given, IsUndisturbed}
+use Rattle.room_model.specs.Server.{Link, Inbound, Server, opened_at}
+use Rattle.room_model.specs.World.{room, Host, Running, Stopped, Conn, Slot, state_in, links_of, opened_host, slot}
+use Rattle.room_model.specs.Run.{Run, all_given, IsUndisturbed}
 use Rattle.room_laws.specs.Core.{Core, core, actor}
 use Rattle.room_laws.specs.Queues.{Place}
 use Rattle.room_laws.specs.Invariant
@@ -16,7 +16,7 @@ use Rattle.room_laws.proofs.Maps.{cut, get_same, get_other}
 use Rattle.room_laws.proofs.Owns.{off, own_off}
 use Rattle.room_laws.proofs.Keep.{Undisturbed, Mine, Still, changed}
 use Rattle.room_laws.proofs.Sessions.{begun_since}
-use Rattle.room_laws.proofs.Cuts.{is_present, ups_idle, ups_any}
+use Rattle.room_laws.proofs.Cuts.{is_present, inbounds_idle, inbounds_any}
 use Rattle.room_laws.proofs.Facts.{some_is, none_some, true_false}
 
 dialled_synced : Dialled ≡ Synced → ⊥
@@ -65,31 +65,31 @@ pub opened_at_host : (g : Host) (k : ℕ) → 0 < k → get (links_of g) k ≡ N
 opened_at_host (Running v) k pos e = opened_running v k (get v.links k) pos e
 opened_at_host (Stopped s) k pos e = record { state = refl; link = rw e tt; others = λ j i. refl; hosts = λ h. h }
 
--- a world in which c dialled: y is its seat, us what goes up at once
-pub record Dialed (r t : Run) (c : ℕ) (y : Seat) : Type 0 where
+-- a world in which c dialled: y is its slot, us what goes up at once
+pub record Dialed (r t : Run) (c : ℕ) (y : Slot) : Type 0 where
   pub host : OpenedHost r.world.host t.world.host (r.world.opened + 1)
   pub opened : t.world.opened ≡ r.world.opened + 1
-  pub seat_is : seat t.world c ≡ y
-  pub seats : (d : ℕ) → (d ≡ c → ⊥) → seat t.world d ≡ seat r.world d
+  pub slot_is : slot t.world c ≡ y
+  pub slots : (d : ℕ) → (d ≡ c → ⊥) → slot t.world d ≡ slot r.world d
   pub present : y.present ≡ Some (r.world.opened + 1)
   pub dialled : core y.account ≡ off Dialled (Invariant.core_of r.world c)
-  pub ups : List Up
-  pub new : Invariant.conn t.world (r.world.opened + 1) ≡ record { owner = Some c; up = ups; down = []; listens = true }
+  pub inbounds : List Inbound
+  pub new : Invariant.conn t.world (r.world.opened + 1) ≡ record { owner = Some c; inbound = inbounds; outbound = []; listens = true }
   -- a hello goes up where the server has the connection
   pub hello : (Invariant.core_of r.world c).room ≡ room
-      → ups ≡ cond (is_some (Invariant.link t.world (r.world.opened + 1))) (Invariant.hello_frame (Invariant.core_of r.world c).session ∷ []) []
-  pub here : (k : ℕ) → (seat r.world c).present ≡ Some k → Invariant.conn t.world k ≡ cut (Invariant.conn r.world k)
-  pub else : (j : ℕ) → (j ≡ r.world.opened + 1 → ⊥) → ((seat r.world c).present ≡ Some j → ⊥) → Invariant.conn t.world j ≡ Invariant.conn r.world j
+      → inbounds ≡ cond (is_some (Invariant.link t.world (r.world.opened + 1))) (Invariant.hello_frame (Invariant.core_of r.world c).session ∷ []) []
+  pub here : (k : ℕ) → (slot r.world c).present ≡ Some k → Invariant.conn t.world k ≡ cut (Invariant.conn r.world k)
+  pub else : (j : ℕ) → (j ≡ r.world.opened + 1 → ⊥) → ((slot r.world c).present ≡ Some j → ⊥) → Invariant.conn t.world j ≡ Invariant.conn r.world j
   pub there : (j : ℕ) → is_some (get r.world.conns j) ≡ true → is_some (get t.world.conns j) ≡ true
   pub there_new : is_some (get t.world.conns (r.world.opened + 1)) ≡ true
   pub log : updates_of t.log ≡ updates_of r.log
   pub given : t.given ≡ r.given
   pub batches : (d : ℕ) → Invariant.issued_by t d ≡ Invariant.issued_by r d
 
-hello_ups : (now : Type 0) (w : Option Resume) (tried : ℕ) (all : List Batch) (last : ℕ) (l : Option Link) → BareIn l
-    → Invariant.Ups now w tried all last l (cond (is_some l) (Invariant.hello_frame w ∷ []) [])
-hello_ups now w tried all last None b = refl
-hello_ups now w tried all last (Some l) b = rw b.actor (record { resume = w; is = refl; old = inr refl; current = λ n. refl })
+hello_inbounds : (now : Type 0) (w : Option Resume) (tried : ℕ) (all : List Batch) (last : ℕ) (l : Option Link) → BareIn l
+    → Invariant.Inbounds now w tried all last l (cond (is_some l) (Invariant.hello_frame w ∷ []) [])
+hello_inbounds now w tried all last None b = refl
+hello_inbounds now w tried all last (Some l) b = rw b.actor (record { resume = w; is = refl; old = inr refl; current = λ n. refl })
 
 hello_linked : (w : Option Resume) (end : Place) (l : Option Link) → end.parts ≡ [] → BareIn l → Invariant.Linked w Dialled [] end l
 hello_linked w end None e b = tt
@@ -99,15 +99,15 @@ bare_actor : (o : Option Link) (l : Link) (a : ℕ) → BareIn o → o ≡ Some 
 bare_actor None l a b e f = none_some l e
 bare_actor (Some k) l a b e f = none_some a (sym b.actor ∙ ap (λ (n : Link). n.actor) (some_is k l e) ∙ f)
 
-module _ (s : State) (r t : Run) (c : ℕ) (y : Seat) (st : Invariant.Inv s r) (h : Dialed r t c y) where
+module _ (s : State) (r t : Run) (c : ℕ) (y : Slot) (st : Invariant.Inv s r) (h : Dialed r t c y) where
   abbrev new : ℕ
   new = r.world.opened + 1
 
   abbrev At : ℕ → Type 0
-  At j = (j ≡ new) ⊎ (((j ≡ new → ⊥) × ((seat r.world c).present ≡ Some j)) ⊎ ((j ≡ new → ⊥) × ((seat r.world c).present ≡ Some j → ⊥)))
+  At j = (j ≡ new) ⊎ (((j ≡ new → ⊥) × ((slot r.world c).present ≡ Some j)) ⊎ ((j ≡ new → ⊥) × ((slot r.world c).present ≡ Some j → ⊥)))
 
   at : (j : ℕ) → At j
-  at j = ⊎_elim (λ e. inl e) (λ e. ⊎_elim (λ i. inr (inl (e, i))) (λ i. inr (inr (e, i))) (is_present (seat r.world c).present j)) (cases_eq j new)
+  at j = ⊎_elim (λ e. inl e) (λ e. ⊎_elim (λ i. inr (inl (e, i))) (λ i. inr (inr (e, i))) (is_present (slot r.world c).present j)) (cases_eq j new)
 
   -- the new one was nobody's
   absent : (d : ℕ) (o : Option ℕ) → (Invariant.conn r.world new).owner ≡ o → o ≡ Some d → ⊥
@@ -118,43 +118,43 @@ module _ (s : State) (r t : Run) (c : ℕ) (y : Seat) (st : Invariant.Inv s r) (
   owner_at j n (inr (inl e)) = ap (λ (q : Conn). q.owner) (h.here j e.1)
   owner_at j n (inr (inr e)) = ap (λ (q : Conn). q.owner) (h.else j e.0 e.1)
 
-  up_at : (j : ℕ) → (j ≡ new → ⊥) → At j → (Invariant.conn t.world j).up ≡ (Invariant.conn r.world j).up
-  up_at j n (inl e) = absurd (n e)
-  up_at j n (inr (inl e)) = ap (λ (q : Conn). q.up) (h.here j e.1)
-  up_at j n (inr (inr e)) = ap (λ (q : Conn). q.up) (h.else j e.0 e.1)
+  inbound_at : (j : ℕ) → (j ≡ new → ⊥) → At j → (Invariant.conn t.world j).inbound ≡ (Invariant.conn r.world j).inbound
+  inbound_at j n (inl e) = absurd (n e)
+  inbound_at j n (inr (inl e)) = ap (λ (q : Conn). q.inbound) (h.here j e.1)
+  inbound_at j n (inr (inr e)) = ap (λ (q : Conn). q.inbound) (h.else j e.0 e.1)
 
   link_same : (j : ℕ) → (j ≡ new → ⊥) → Invariant.link t.world j ≡ Invariant.link r.world j
   link_same j n = h.host.others j n
 
-  now_present : (seat t.world c).present ≡ Some new
-  now_present = ap (λ (z : Seat). z.present) h.seat_is ∙ h.present
+  now_present : (slot t.world c).present ≡ Some new
+  now_present = ap (λ (z : Slot). z.present) h.slot_is ∙ h.present
 
-  present_at : (d j : ℕ) → (d ≡ c) ⊎ (d ≡ c → ⊥) → At j → (seat t.world d).present ≡ Some j → Invariant.Open (Invariant.conn t.world j) d
+  present_at : (d j : ℕ) → (d ≡ c) ⊎ (d ≡ c → ⊥) → At j → (slot t.world d).present ≡ Some j → Invariant.ListensFor (Invariant.conn t.world j) d
   present_at d j (inl e) a i =
-      let k : new ≡ j = some_is new j (sym now_present ∙ subst (λ n. (seat t.world n).present ≡ Some j) e i) in
-      subst (λ n. Invariant.Open (Invariant.conn t.world n) d) k (rw h.new (record { owner = ap Some (sym e); listens = refl }))
+      let k : new ≡ j = some_is new j (sym now_present ∙ subst (λ n. (slot t.world n).present ≡ Some j) e i) in
+      subst (λ n. Invariant.ListensFor (Invariant.conn t.world n) d) k (rw h.new (record { owner = ap Some (sym e); listens = refl }))
   present_at d j (inr e) a i = other a
     where
-      was : (seat r.world d).present ≡ Some j
-      was = ap (λ (z : Seat). z.present) (sym (h.seats d e)) ∙ i
+      was : (slot r.world d).present ≡ Some j
+      was = ap (λ (z : Slot). z.present) (sym (h.slots d e)) ∙ i
 
-      other : At j → Invariant.Open (Invariant.conn t.world j) d
+      other : At j → Invariant.ListensFor (Invariant.conn t.world j) d
       other (inl a) = absurd (absent d (Invariant.conn r.world new).owner refl (subst (λ n. (Invariant.conn r.world n).owner ≡ Some d) a (st.shape.present d j was).owner))
       other (inr (inl a)) = absurd (e (some_is d c (sym (st.shape.present d j was).owner ∙ (st.shape.present c j a.1).owner)))
       other (inr (inr a)) = rw (h.else j a.0 a.1) (st.shape.present d j was)
 
-  heard_at : (d j : ℕ) → (d ≡ c) ⊎ (d ≡ c → ⊥) → At j → Invariant.Open (Invariant.conn t.world j) d → (seat t.world d).present ≡ Some j
+  heard_at : (d j : ℕ) → (d ≡ c) ⊎ (d ≡ c → ⊥) → At j → Invariant.ListensFor (Invariant.conn t.world j) d → (slot t.world d).present ≡ Some j
   heard_at d j e (inl a) o =
       let own : Some c ≡ Some d = sym (ap (λ (q : Conn). q.owner) h.new) ∙ subst (λ n. (Invariant.conn t.world n).owner ≡ Some d) a o.owner in
-      subst (λ n. (seat t.world n).present ≡ Some j) (some_is c d own) (now_present ∙ ap Some (sym a))
+      subst (λ n. (slot t.world n).present ≡ Some j) (some_is c d own) (now_present ∙ ap Some (sym a))
   heard_at d j e (inr (inl a)) o = absurd (true_false (sym o.listens ∙ ap (λ (q : Conn). q.listens) (h.here j a.1)))
-  heard_at d j (inl e) (inr (inr a)) o = absurd (a.1 (st.shape.heard c j (subst (λ n. Invariant.Open (Invariant.conn r.world j) n) e (subst (λ (q : Conn). Invariant.Open q d) (h.else j a.0 a.1) o))))
-  heard_at d j (inr e) (inr (inr a)) o = ap (λ (z : Seat). z.present) (h.seats d e) ∙ st.shape.heard d j (subst (λ (q : Conn). Invariant.Open q d) (h.else j a.0 a.1) o)
+  heard_at d j (inl e) (inr (inr a)) o = absurd (a.1 (st.shape.heard c j (subst (λ n. Invariant.ListensFor (Invariant.conn r.world j) n) e (subst (λ (q : Conn). Invariant.ListensFor q d) (h.else j a.0 a.1) o))))
+  heard_at d j (inr e) (inr (inr a)) o = ap (λ (z : Slot). z.present) (h.slots d e) ∙ st.shape.heard d j (subst (λ (q : Conn). Invariant.ListensFor q d) (h.else j a.0 a.1) o)
 
-  deaf_at : (j : ℕ) → At j → (Invariant.conn t.world j).listens ≡ false → (Invariant.conn t.world j).down ≡ []
-  deaf_at j (inl a) i = rw a (ap (λ (q : Conn). q.down) h.new)
-  deaf_at j (inr (inl a)) i = ap (λ (q : Conn). q.down) (h.here j a.1)
-  deaf_at j (inr (inr a)) i = ap (λ (q : Conn). q.down) (h.else j a.0 a.1) ∙ st.shape.deaf j (sym (ap (λ (q : Conn). q.listens) (h.else j a.0 a.1)) ∙ i)
+  deaf_at : (j : ℕ) → At j → (Invariant.conn t.world j).listens ≡ false → (Invariant.conn t.world j).outbound ≡ []
+  deaf_at j (inl a) i = rw a (ap (λ (q : Conn). q.outbound) h.new)
+  deaf_at j (inr (inl a)) i = ap (λ (q : Conn). q.outbound) (h.here j a.1)
+  deaf_at j (inr (inr a)) i = ap (λ (q : Conn). q.outbound) (h.else j a.0 a.1) ∙ st.shape.deaf j (sym (ap (λ (q : Conn). q.listens) (h.else j a.0 a.1)) ∙ i)
 
   unopened_at : (j : ℕ) → At j → r.world.opened + 1 < j → Invariant.conn t.world j ≡ Invariant.no_conn
   unopened_at j (inl a) i = absurd (omega arith)
@@ -194,7 +194,7 @@ module _ (s : State) (r t : Run) (c : ℕ) (y : Seat) (st : Invariant.Inv s r) (
         coming = k.coming;
         own = own_off s (updates_of r.log) (last_of (Invariant.sessions r) (actor x)) x (Invariant.issued_by r c) k.done k.coming Dialled dialled_synced k.own;
         stands = k.stands;
-        seated = record {
+        standing = record {
           who = x.session;
           named = inl refl;
           known = λ i. absurd i;
@@ -205,22 +205,22 @@ module _ (s : State) (r t : Run) (c : ℕ) (y : Seat) (st : Invariant.Inv s r) (
         };
       }
 
-  ups_at : (j : ℕ) → At j → (Invariant.conn t.world j).owner ≡ Some c → IsUndisturbed r c
-      → Invariant.Ups (Some new ≡ Some j) x.session (Invariant.tried (off Dialled x)) (Invariant.issued_by r c) (last_of (Invariant.sessions r) (actor x)) (Invariant.link t.world j) (Invariant.conn t.world j).up
-  ups_at j (inl a) o u = rw a (rw (ap (λ (q : Conn). q.up) h.new ∙ h.hello (st.client c u).own.room)
-      (hello_ups (Some new ≡ Some new) x.session (Invariant.tried (off Dialled x)) (Invariant.issued_by r c) (last_of (Invariant.sessions r) (actor x)) (Invariant.link t.world new) h.host.link))
-  ups_at j (inr a) o u = old (⊎_elim (λ i. i.0) (λ i. i.0) a)
+  inbounds_at : (j : ℕ) → At j → (Invariant.conn t.world j).owner ≡ Some c → IsUndisturbed r c
+      → Invariant.Inbounds (Some new ≡ Some j) x.session (Invariant.tried (off Dialled x)) (Invariant.issued_by r c) (last_of (Invariant.sessions r) (actor x)) (Invariant.link t.world j) (Invariant.conn t.world j).inbound
+  inbounds_at j (inl a) o u = rw a (rw (ap (λ (q : Conn). q.inbound) h.new ∙ h.hello (st.client c u).own.room)
+      (hello_inbounds (Some new ≡ Some new) x.session (Invariant.tried (off Dialled x)) (Invariant.issued_by r c) (last_of (Invariant.sessions r) (actor x)) (Invariant.link t.world new) h.host.link))
+  inbounds_at j (inr a) o u = old (⊎_elim (λ i. i.0) (λ i. i.0) a)
     where
-      old : (j ≡ new → ⊥) → Invariant.Ups (Some new ≡ Some j) x.session (Invariant.tried (off Dialled x)) (Invariant.issued_by r c) (last_of (Invariant.sessions r) (actor x)) (Invariant.link t.world j) (Invariant.conn t.world j).up
-      old n = rw (link_same j n, up_at j n (inr a))
-          (ups_idle (Some new ≡ Some j) x.session (Invariant.tried x) (Invariant.tried (off Dialled x)) (Invariant.issued_by r c) (last_of (Invariant.sessions r) (actor x)) (Invariant.link r.world j) (Invariant.conn r.world j).up
+      old : (j ≡ new → ⊥) → Invariant.Inbounds (Some new ≡ Some j) x.session (Invariant.tried (off Dialled x)) (Invariant.issued_by r c) (last_of (Invariant.sessions r) (actor x)) (Invariant.link t.world j) (Invariant.conn t.world j).inbound
+      old n = rw (link_same j n, inbound_at j n (inr a))
+          (inbounds_idle (Some new ≡ Some j) x.session (Invariant.tried x) (Invariant.tried (off Dialled x)) (Invariant.issued_by r c) (last_of (Invariant.sessions r) (actor x)) (Invariant.link r.world j) (Invariant.conn r.world j).inbound
           (λ e. n (sym (some_is new j e)))
-          (ups_any ((seat r.world c).present ≡ Some j) x.session (Invariant.tried x) (Invariant.issued_by r c) (last_of (Invariant.sessions r) (actor x)) (Invariant.link r.world j) (Invariant.conn r.world j).up
-          (st.ups c j (sym (owner_at j n (inr a)) ∙ o) u)))
+          (inbounds_any ((slot r.world c).present ≡ Some j) x.session (Invariant.tried x) (Invariant.issued_by r c) (last_of (Invariant.sessions r) (actor x)) (Invariant.link r.world j) (Invariant.conn r.world j).inbound
+          (st.inbounds c j (sym (owner_at j n (inr a)) ∙ o) u)))
 
   pub keeps_dialed : Invariant.Inv s t
   keeps_dialed = changed r t c y (Invariant.issued_by r c) s st (record {
-    seat_is = h.seat_is;
+    slot_is = h.slot_is;
     batches_are = h.batches c;
     shape = record {
       hosts = h.host.hosts st.shape.hosts;
@@ -234,20 +234,20 @@ module _ (s : State) (r t : Run) (c : ℕ) (y : Seat) (st : Invariant.Inv s r) (
     log = h.log;
     state = h.host.state;
     given = h.given;
-    seats = h.seats;
+    slots = h.slots;
     batches = λ d e. h.batches d;
     conns = λ j. conns_at j (at j);
     links = λ j a l e i. links_at j a l (at j) e i;
-    client = λ u. rw (h.present, h.dialled) (rw (ap (λ (q : Conn). q.down) h.new) (dial_client (before u)));
-    ups = λ j o u. ups_after j o (before u);
+    client = λ u. rw (h.present, h.dialled) (rw (ap (λ (q : Conn). q.outbound) h.new) (dial_client (before u)));
+    inbounds = λ j o u. inbounds_after j o (before u);
   })
     where
-      ups_after : (j : ℕ) → (Invariant.conn t.world j).owner ≡ Some c → IsUndisturbed r c
-          → Invariant.Ups (y.present ≡ Some j) (y.account).session (Invariant.tried (core y.account)) (Invariant.issued_by r c)
-          (last_of (Invariant.sessions r) (actor (core y.account))) (Invariant.link t.world j) (Invariant.conn t.world j).up
-      ups_after j o u =
-          subst (λ (p : Option ℕ). Invariant.Ups (p ≡ Some j) (y.account).session (Invariant.tried (core y.account)) (Invariant.issued_by r c)
-          (last_of (Invariant.sessions r) (actor (core y.account))) (Invariant.link t.world j) (Invariant.conn t.world j).up) (sym h.present)
-          (subst (λ (z : Core). Invariant.Ups (Some new ≡ Some j) z.session (Invariant.tried z) (Invariant.issued_by r c)
-          (last_of (Invariant.sessions r) (actor z)) (Invariant.link t.world j) (Invariant.conn t.world j).up) (sym h.dialled)
-          (ups_at j (at j) o u))
+      inbounds_after : (j : ℕ) → (Invariant.conn t.world j).owner ≡ Some c → IsUndisturbed r c
+          → Invariant.Inbounds (y.present ≡ Some j) (y.account).session (Invariant.tried (core y.account)) (Invariant.issued_by r c)
+          (last_of (Invariant.sessions r) (actor (core y.account))) (Invariant.link t.world j) (Invariant.conn t.world j).inbound
+      inbounds_after j o u =
+          subst (λ (p : Option ℕ). Invariant.Inbounds (p ≡ Some j) (y.account).session (Invariant.tried (core y.account)) (Invariant.issued_by r c)
+          (last_of (Invariant.sessions r) (actor (core y.account))) (Invariant.link t.world j) (Invariant.conn t.world j).inbound) (sym h.present)
+          (subst (λ (z : Core). Invariant.Inbounds (Some new ≡ Some j) z.session (Invariant.tried z) (Invariant.issued_by r c)
+          (last_of (Invariant.sessions r) (actor z)) (Invariant.link t.world j) (Invariant.conn t.world j).inbound) (sym h.dialled)
+          (inbounds_at j (at j) o u))

@@ -50,25 +50,25 @@ pub end_called : (x : Account) (o : Option OpenBatch) (out : calls.Done) → cal
 end_called x None out p = cc
 end_called x (Some o) out p = subst (DoneCalled x) (ok_is _ _ p) (bodies_called x o.bodies)
 
-presence_back : (way : calls.Way) (x : Account) (entry : List Back) (size : ℕ) (out : calls.Done) → calls.back_presence way x entry size ≡ Ok (Some out) → DoneCalled x out
+presence_back : (way : calls.Direction) (x : Account) (entry : List Back) (size : ℕ) (out : calls.Done) → calls.back_presence way x entry size ≡ Ok (Some out) → DoneCalled x out
 presence_back way x entry size out p = subst (DoneCalled x) (some_is _ _ (under (nat_lt most_bytes size) _ _ _ p)) (bodies_called x (calls.entry_bodies entry))
 
-back_sized : (way : calls.Way) (x : Account) (entry : List Back) (b : Bool) (fault : calls.UndoFault) (size : ℕ) (out : calls.Done)
+back_sized : (way : calls.Direction) (x : Account) (entry : List Back) (b : Bool) (fault : calls.UndoFault) (size : ℕ) (out : calls.Done)
     → cond b (Err fault) (calls.back_presence way x entry size) ≡ Ok (Some out) → DoneCalled x out
 back_sized way x entry true fault size out p = cc
 back_sized way x entry false fault size out p = presence_back way x entry size out p
 
-back_clocked : (way : calls.Way) (x : Account) (entry : List Back) (bs : List Body) (o : Option ℕ) (out : calls.Done) → calls.back_clocked way x entry bs o ≡ Ok (Some out) → DoneCalled x out
+back_clocked : (way : calls.Direction) (x : Account) (entry : List Back) (bs : List Body) (o : Option ℕ) (out : calls.Done) → calls.back_clocked way x entry bs o ≡ Ok (Some out) → DoneCalled x out
 back_clocked way x entry bs (Some last) out p = cc
 back_clocked way x entry bs None out p =
     let size = size_of (frame_of_ops (ops_from (actor x) (last_issued x + 1) bs)) in
     back_sized way x entry (is_some_list bs && nat_lt most_bytes size) (calls.UndoBatchTooLarge size) (calls.presence_size (calls.entry_presence x.me entry)) out p
 
-back_entry : (way : calls.Way) (x : Account) (o : Option (List Back)) (out : calls.Done) → calls.back_entry way x o ≡ Ok (Some out) → DoneCalled x out
+back_entry : (way : calls.Direction) (x : Account) (o : Option (List Back)) (out : calls.Done) → calls.back_entry way x o ≡ Ok (Some out) → DoneCalled x out
 back_entry way x None out p = absurd (none_some out (ok_is _ _ p))
 back_entry way x (Some entry) out p = back_clocked way x entry (calls.entry_bodies entry) (spent (last_issued x + 1) (length (calls.entry_bodies entry))) out p
 
-pub back_called : (way : calls.Way) (x : Account) (o : Option OpenBatch) (out : calls.Done) → calls.back_at way x o ≡ Ok (Some out) → DoneCalled x out
+pub back_called : (way : calls.Direction) (x : Account) (o : Option OpenBatch) (out : calls.Done) → calls.back_at way x o ≡ Ok (Some out) → DoneCalled x out
 back_called way x (Some o) out p = cc
 back_called way x None out p = back_entry way x (calls.entry_of way x.history) out p
 

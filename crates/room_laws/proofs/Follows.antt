@@ -7,7 +7,8 @@ use Rattle.room_nodes.specs.Steps.{fold}
 use Rattle.room_msg.specs.declared.messages.Resume.{Resume}
 use Rattle.room_log.specs.Log.{State, Session, Update, tree_after, tree_at, last_of, last_in, last_after, updates_of}
 use Rattle.room_model.specs.Account.{Batch, actor_in, shown_over, pending_bodies}
-use Rattle.room_model.specs.Run.{Run, account, IsUndisturbed}
+use Rattle.room_model.specs.World.{account}
+use Rattle.room_model.specs.Run.{Run, IsUndisturbed}
 use Rattle.room_laws.specs.Ledger.{Matches}
 use Rattle.room_laws.specs.Core.{Core, issued, actor}
 use Rattle.room_laws.specs.Invariant
@@ -51,7 +52,7 @@ module _ (s : State) (r : Run) (c : ℕ) (st : Invariant.Inv s r) (u : IsUndistu
       record {
         runs = l.chain;
         once = once (actor x) s.tree 0 (updates_of r.log) (Invariant.issued_by r c) l.rest (last_of (Invariant.sessions r) (actor x))
-            (rw h.own.whole (Matches-append (actor x) s.tree 0 h.done h.coming (Invariant.issued_by r c) (issued x) l.rest x.told (last_of (Invariant.sessions r) (actor x)) l.took l.takes));
+            (rw h.own.whole (Matches-append (actor x) s.tree 0 h.done h.coming (Invariant.issued_by r c) (issued x) l.rest x.told (last_of (Invariant.sessions r) (actor x)) l.received l.takes));
         acknowledged = (rest_is s (updates_of r.log) (last_of (Invariant.sessions r) (actor x)) x (Invariant.issued_by r c) h.done h.coming h.own).above;
       }
 
@@ -74,6 +75,6 @@ module _ (s : State) (r : Run) (c : ℕ) (st : Invariant.Inv s r) (u : IsUndistu
       record {
         tree = tree;
         told = sym (ap (λ us. last_after (actor x) (last_of s.sessions (actor x)) us) front ∙ ap (λ i. last_after (actor x) i h.done) zero_is
-            ∙ last_after_is (actor x) s.tree 0 h.done (Invariant.issued_by r c) (issued x) x.told l.chain l.took);
+            ∙ last_after_is (actor x) s.tree 0 h.done (Invariant.issued_by r c) (issued x) x.told l.chain l.received);
         on_top = ap (shown_over (account r.world c)) e ∙ ap (λ (v : Nodes). Some (fold v (pending_bodies (account r.world c)))) tree;
       }

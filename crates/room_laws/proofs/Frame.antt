@@ -5,7 +5,7 @@ use Rattle.std.specs.FinMap.{get}
 use Rattle.room_items.specs.Items.{tree_in, items_of}
 use Rattle.room_log.specs.Log.{State, Updated, Update, tree_after, updated, updates_of}
 use Rattle.room_model.specs.Server
-use Rattle.room_model.specs.Server.{Link, Up, Served}
+use Rattle.room_model.specs.Server.{Link, Inbound, Served}
 use Rattle.room_model.specs.World
 use Rattle.room_model.specs.World.{Conn, Host, Running, Stopped, state_in}
 use Rattle.room_model.specs.Run.{Run, with_step, is_undisturbed, IsUndisturbed}
@@ -24,12 +24,12 @@ use Rattle.room_laws.proofs.Facts.{some_is, none_some}
 true_false : false ≡ true → ⊥
 true_false e = cc
 
-module _ (s : State) (r : Run) (v : Server.Server) (k : ℕ) (q : Conn) (u : Up) (us : List Up) (st : Invariant.Inv s r) (there : get r.world.conns k ≡ Some q) (first : q.up ≡ u ∷ us) (runs : r.world.host ≡ Running v) where
+module _ (s : State) (r : Run) (v : Server.Server) (k : ℕ) (q : Conn) (u : Inbound) (us : List Inbound) (st : Invariant.Inv s r) (there : get r.world.conns k ≡ Some q) (first : q.inbound ≡ u ∷ us) (runs : r.world.host ≡ Running v) where
   abbrev KeptHere : Served → Type 0
   KeptHere out = Kept s r v k q u us st there first runs out
 
   abbrev w : World.World
-  w = World.with_conn r.world k (record q { up = us })
+  w = World.with_conn r.world k (record q { inbound = us })
 
   abbrev Spells : Served → Type 0
   Spells out = (n : Update) → out.entry ≡ Some (Updated n) → tree_in (items_of (updated v.state n).tree) ≡ Some (updated v.state n).tree
@@ -99,14 +99,14 @@ module _ (s : State) (r : Run) (k : ℕ) (st : Invariant.Inv s r) where
   stays : Keeps (World.quiet r.world)
   stays h = keeps_saying s r [] st
 
-  from : (g : Host) (q : Conn) (us : List Up) → r.world.host ≡ g → get r.world.conns k ≡ Some q → q.up ≡ us → Keeps (World.up_from r.world k g q us)
+  from : (g : Host) (q : Conn) (us : List Inbound) → r.world.host ≡ g → get r.world.conns k ≡ Some q → q.inbound ≡ us → Keeps (World.inbound_from r.world k g q us)
   from (Running v) q (u ∷ us) e f i h = keeps_frame s r v k q u us st f i e h
   from (Running v) q [] e f i h = stays h
   from (Stopped n) q us e f i h = stays h
 
-  at : (o : Option Conn) → get r.world.conns k ≡ o → Keeps (World.up_at r.world k o)
+  at : (o : Option Conn) → get r.world.conns k ≡ o → Keeps (World.inbound_at r.world k o)
   at None e h = stays h
-  at (Some q) e h = from r.world.host q q.up refl e refl h
+  at (Some q) e h = from r.world.host q q.inbound refl e refl h
 
-  pub keeps_up : Keeps (World.goes_up r.world k)
-  keeps_up h = at (get r.world.conns k) refl h
+  pub keeps_inbound : Keeps (World.server_receives r.world k)
+  keeps_inbound h = at (get r.world.conns k) refl h

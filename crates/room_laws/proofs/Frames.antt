@@ -12,14 +12,14 @@ use Rattle.room_msg.specs.declared.messages.ClientMsg.TheVariants as client
 use Rattle.room_msg.specs.declared.messages.ClientFrame.TheVariants as frame
 use Rattle.room_log.specs.Log.{Session, session_of, ops_from}
 use Rattle.room_log.specs.Take.{take}
-use Rattle.room_model.specs.Access
-use Rattle.room_model.specs.Access.{may_do}
+use Rattle.room_model.specs.Access.{barred}
 use Rattle.room_msg.specs.declared.reason.Reason.TheVariants as reason
 use Rattle.room_model.specs.Server
 use Rattle.room_model.specs.World.{room}
 use Rattle.room_laws.specs.Invariant
 use Rattle.room_laws.proofs.Ops.{all_mine}
 use Rattle.room_laws.proofs.Popped.{IsTalk}
+use Rattle.room_laws.proofs.Acting.{all_from, taken_from, taken_is}
 
 abbrev hello_of : Option Resume → Hello
 hello_of resume = record { room = room; resume = resume; name = None; «pass» = None }
@@ -28,8 +28,8 @@ same_room : bytes_eq room room ≡ true
 same_room = refl
 
 -- the frame of an attached connection
-serve_is : (v : Server.Server) (k : ℕ) (up : Server.Up) (l : Server.Link) → get v.links k ≡ Some l → Server.serve v k up ≡ Server.frame_at v k l up
-serve_is v k up l e = ap (Server.serve_from v k up) e
+serve_is : (v : Server.Server) (k : ℕ) (inbound : Server.Inbound) (l : Server.Link) → get v.links k ≡ Some l → Server.serve v k inbound ≡ Server.frame_at v k l inbound
+serve_is v k inbound l e = ap (Server.serve_from v k inbound) e
 
 decided : (v : Server.Server) (h : Hello) → v.access ≡ None → Server.decision_of v h v.access ≡ None
 decided v h e = ap (Server.decision_of v h) e
@@ -64,19 +64,20 @@ pub talks : (v : Server.Server) (k a : ℕ) (l : Server.Link) (m : ClientMsg) �
 talks v k a l (client.Hello h) i e b d = absurd i
 talks v k a l (client.Update os) i e b d = absurd i
 talks v k a l (client.Presence target patch) i e b d = serve_is v k (Ok (frame.Msgs (client.Presence target patch ∷ []))) l e ∙ ap (Server.messages v k l (client.Presence target patch ∷ [])) b
-    ∙ ap (λ o. cond (may_do o (client.Presence target patch ∷ [])) (Server.then_served (Server.nothing v) (Server.acts v k a None (client.Presence target patch))) (Server.shut v k l 4403 (Access.refusal_text o))) d
+    ∙ ap (λ o. Server.permitted_unless v k l a (client.Presence target patch ∷ []) (barred o (client.Presence target patch ∷ []))) d ∙ all_from v k a None (client.Presence target patch ∷ [])
 talks v k a l (client.Broadcast event) i e b d = serve_is v k (Ok (frame.Msgs (client.Broadcast event ∷ []))) l e ∙ ap (Server.messages v k l (client.Broadcast event ∷ [])) b
-    ∙ ap (λ o. cond (may_do o (client.Broadcast event ∷ [])) (Server.then_served (Server.nothing v) (Server.acts v k a None (client.Broadcast event))) (Server.shut v k l 4403 (Access.refusal_text o))) d
+    ∙ ap (λ o. Server.permitted_unless v k l a (client.Broadcast event ∷ []) (barred o (client.Broadcast event ∷ []))) d ∙ all_from v k a None (client.Broadcast event ∷ [])
 talks v k a l client.Fetch i e b d = serve_is v k (Ok (frame.Msgs (client.Fetch ∷ []))) l e ∙ ap (Server.messages v k l (client.Fetch ∷ [])) b
-    ∙ ap (λ o. cond (may_do o (client.Fetch ∷ [])) (Server.then_served (Server.nothing v) (Server.acts v k a None client.Fetch)) (Server.shut v k l 4403 (Access.refusal_text o))) d
+    ∙ ap (λ o. Server.permitted_unless v k l a (client.Fetch ∷ []) (barred o (client.Fetch ∷ []))) d ∙ all_from v k a None (client.Fetch ∷ [])
 
 -- operations are taken, as they come
 pub updates : (v : Server.Server) (k a f : ℕ) (bs : List Body) (l : Server.Link) → get v.links k ≡ Some l → l.actor ≡ Some a → l.decision ≡ None
-    → Server.serve v k (Ok (frame.Msgs (client.Update (ops_from a f bs) ∷ []))) ≡ Server.taken v k l a (client.Update (ops_from a f bs) ∷ []) (take v.state a (ops_from a f bs))
+    → Server.serve v k (Ok (frame.Msgs (client.Update (ops_from a f bs) ∷ []))) ≡ taken_from v k l a (client.Update (ops_from a f bs) ∷ []) (take v.state a (ops_from a f bs))
 updates v k a f bs l e b d =
     serve_is v k (Ok (frame.Msgs (client.Update (ops_from a f bs) ∷ []))) l e
     ∙ ap (Server.messages v k l (client.Update (ops_from a f bs) ∷ [])) b
     ∙ ap (λ os. Server.owned v k l a (client.Update (ops_from a f bs) ∷ []) (Server.foreign_in a os)) (append-nil (ops_from a f bs))
     ∙ ap (Server.owned v k l a (client.Update (ops_from a f bs) ∷ [])) (all_mine a f bs)
-    ∙ ap (λ d. cond (may_do d (client.Update (ops_from a f bs) ∷ [])) (Server.taken v k l a (client.Update (ops_from a f bs) ∷ []) (take v.state a (ops_from a f bs ++ []))) (Server.shut v k l 4403 (Access.refusal_text d))) d
-    ∙ ap (λ os. Server.taken v k l a (client.Update (ops_from a f bs) ∷ []) (take v.state a os)) (append-nil (ops_from a f bs))
+    ∙ ap (λ o. Server.permitted_unless v k l a (client.Update (ops_from a f bs) ∷ []) (barred o (client.Update (ops_from a f bs) ∷ []))) d
+    ∙ taken_is v k l a (client.Update (ops_from a f bs) ∷ []) (take v.state a (ops_from a f bs ++ []))
+    ∙ ap (λ os. taken_from v k l a (client.Update (ops_from a f bs) ∷ []) (take v.state a os)) (append-nil (ops_from a f bs))

@@ -3,7 +3,7 @@ use Rattle.std.proofs.Common.{◌≡◌, ℕ, zero, suc, List, [], ◌∷◌, �
 use Rattle.std.specs.List.{AllByRecursion}
 use Rattle.room_nodes.specs.declared.nodes.Change.{Change}
 use Rattle.room_model.specs.History.{History, empty_history, note, noted, pause, paused_at, resume, resumed_at, clear, emptied, newest, entry_at}
-use Rattle.room_model.specs.Calls.{Way, Undo, Redo, entry_of, gone}
+use Rattle.room_model.specs.Calls.{Direction, Undo, Redo, entry_of, gone}
 use Rattle.room_model.specs.Sound.{HoldsOnly, changes_or_none}
 use Rattle.room_laws.proofs.Facts.{some_is, none_some}
 
@@ -65,10 +65,10 @@ module _ (P : List Change → Type 0) (none : P []) (more : (xs ys : List Change
 
   -- what an undo or a redo takes, and what it leaves
 
-  pub holds_entry : (way : Way) (h : History) (e : List Change) → HoldsOnly P h → entry_of way h ≡ Some e → P e
+  pub holds_entry : (way : Direction) (h : History) (e : List Change) → HoldsOnly P h → entry_of way h ≡ Some e → P e
   holds_entry Undo h e k s = entry_by h h.bag e refl k s
   holds_entry Redo h e k s = newest_is h.redo e k.redo s
 
-  pub holds_gone : (way : Way) (r : List Change) (h : History) → P r → HoldsOnly P h → HoldsOnly P (gone way r h)
+  pub holds_gone : (way : Direction) (r : List Change) (h : History) → P r → HoldsOnly P h → HoldsOnly P (gone way r h)
   holds_gone Undo r h p k = let m = holds_resume h k in record { undo = all_drop 1 (resume h).undo m.undo; redo = (p, m.redo); bag = m.bag }
   holds_gone Redo r h p k = let m = holds_resume h k in record { undo = put r (resume h).undo p m.undo; redo = all_drop 1 (resume h).redo m.redo; bag = m.bag }

@@ -8,33 +8,33 @@ use Rattle.room_msg.specs.declared.messages.Resume.{Resume}
 use Rattle.room_msg.specs.declared.messages.ServerMsg.TheVariants as server
 use Rattle.room_log.specs.Log.{State, Session, Join, Update, joined, last_of, updates_of}
 use Rattle.room_model.specs.Server
-use Rattle.room_model.specs.Server.{Down, Message, Closed, Link, Up, Served, has_session}
+use Rattle.room_model.specs.Server.{Outbound, Message, Closed, Link, Inbound, Served, has_session}
 use Rattle.room_model.specs.World
-use Rattle.room_model.specs.World.{Conn, Seat, Host, Running, Fuse, state_in, links_of, deliver}
-use Rattle.room_model.specs.Run.{Run, seat, seat_in, IsUndisturbed}
+use Rattle.room_model.specs.World.{Conn, Slot, Host, Running, Fuse, state_in, links_of, deliver, slot, slot_in}
+use Rattle.room_model.specs.Run.{Run, IsUndisturbed}
 use Rattle.room_laws.specs.Core.{actor}
 use Rattle.room_laws.specs.Invariant
 use Rattle.room_laws.proofs.Maps.{mine, passes, to_others_same, to_others_other, deliver_there, get_same, get_other, get_none, emptied_at, hushed}
 use Rattle.room_laws.proofs.Stops.{keeps_stopping, own_same}
 use Rattle.room_laws.proofs.RunSteps.{updates_of-append}
 use Rattle.room_laws.proofs.Sessions.{last_past}
-use Rattle.room_laws.proofs.Calm.{ups_after}
-use Rattle.room_laws.proofs.Leaving.{delivered, ups_passed}
+use Rattle.room_laws.proofs.Calm.{inbounds_after}
+use Rattle.room_laws.proofs.Leaving.{delivered, inbounds_passed}
 use Rattle.room_laws.proofs.Welcomes.{last_join, session_join, slice_new, silent_within, keeps_welcome}
 
 within_more : (n m : ℕ) (us : List Update) → n ≤ m → Invariant.Within n us → Invariant.Within m us
 within_more n m [] l w = tt
 within_more n m (u ∷ us) l w = record { actor = omega (arith, w.actor); more = within_more n m us l w.more }
 
--- qs: the connections without the hello; ups: their queues up
-module _ (s : State) (r : Run) (v : Server.Server) (k : ℕ) (l : Link) (name : Option (List ℕ)) (qs : FinMap nat_cmp Conn) (ups : ℕ → List Up) (fuse : Option Fuse) (st : Invariant.Inv s r)
+-- qs: the connections without the hello; ups: their inbound queues
+module _ (s : State) (r : Run) (v : Server.Server) (k : ℕ) (l : Link) (name : Option (List ℕ)) (qs : FinMap nat_cmp Conn) (inbounds : ℕ → List Inbound) (fuse : Option Fuse) (st : Invariant.Inv s r)
     (runs : r.world.host ≡ Running v) (attached : get v.links k ≡ Some l) (bare : l.actor ≡ None)
-    (conns : (j : ℕ) → Invariant.conn_in (get qs j) ≡ record (Invariant.conn r.world j) { up = ups j })
+    (conns : (j : ℕ) → Invariant.conn_in (get qs j) ≡ record (Invariant.conn r.world j) { inbound = inbounds j })
     (there : (j : ℕ) → is_some (get r.world.conns j) ≡ true → is_some (get qs j) ≡ true)
-    (else : (j : ℕ) → (j ≡ k → ⊥) → ups j ≡ (Invariant.conn r.world j).up)
-    (unopened : (j : ℕ) → r.world.opened < j → ups j ≡ [])
+    (else : (j : ℕ) → (j ≡ k → ⊥) → inbounds j ≡ (Invariant.conn r.world j).inbound)
+    (unopened : (j : ℕ) → r.world.opened < j → inbounds j ≡ [])
     -- an undisturbed client's hello was the only frame, and it knows no session where it is present
-    (popped : (d : ℕ) → (Invariant.conn r.world k).owner ≡ Some d → IsUndisturbed r d → (ups k ≡ []) × (((seat r.world d).present ≡ Some k) → (Invariant.core_of r.world d).session ≡ None)) where
+    (popped : (d : ℕ) → (Invariant.conn r.world k).owner ≡ Some d → IsUndisturbed r d → (inbounds k ≡ []) × (((slot r.world d).present ≡ Some k) → (Invariant.core_of r.world d).session ≡ None)) where
   abbrev a : ℕ
   a = suc (length v.state.sessions)
 
@@ -47,7 +47,7 @@ module _ (s : State) (r : Run) (v : Server.Server) (k : ℕ) (l : Link) (name : 
   abbrev users : List (ℕ × List ℕ)
   users = Server.users_of (joined v.state l.key (Server.name_of name)).sessions (remove (insert v.links k (Server.with_session l (suc (length v.state.sessions)) None)) k)
 
-  abbrev outs : List (ℕ × Down)
+  abbrev outs : List (ℕ × Outbound)
   outs = (k, Message (server.RoomState (suc (length v.state.sessions)) l.key (Server.users_of (joined v.state l.key (Server.name_of name)).sessions (remove (insert v.links k (Server.with_session l (suc (length v.state.sessions)) None)) k))))
       ∷ Server.to_others (insert v.links k (Server.with_session l (suc (length v.state.sessions)) None)) k (server.Joined (suc (length v.state.sessions)))
 
@@ -77,15 +77,15 @@ module _ (s : State) (r : Run) (v : Server.Server) (k : ℕ) (l : Link) (name : 
   sends_else j e = rw (ne_eqb k j (λ d. e (sym d))) (to_others_other (server.Joined a) k j (insert v.links k now) e
       ∙ ap (passes has_session (Message (server.Joined a))) (get_other v.links k now j e ∙ sym (link_is j)))
 
-  ups_here : ups_after (ups k) (mine k outs) ≡ ups k
-  ups_here = ap (λ ms. ups_after (ups k) ms) sends_here
+  inbounds_here : inbounds_after (inbounds k) (mine k outs) ≡ inbounds k
+  inbounds_here = ap (λ ms. inbounds_after (inbounds k) ms) sends_here
 
-  ups_else : (j : ℕ) → (j ≡ k → ⊥) → ups_after (ups j) (mine j outs) ≡ (Invariant.conn r.world j).up
-  ups_else j e = ap (λ ms. ups_after (ups j) ms) (sends_else j e) ∙ ups_passed (ups j) has_session (server.Joined a) (Invariant.link r.world j) ∙ else j e
+  inbounds_else : (j : ℕ) → (j ≡ k → ⊥) → inbounds_after (inbounds j) (mine j outs) ≡ (Invariant.conn r.world j).inbound
+  inbounds_else j e = ap (λ ms. inbounds_after (inbounds j) ms) (sends_else j e) ∙ inbounds_passed (inbounds j) has_session (server.Joined a) (Invariant.link r.world j) ∙ else j e
 
-  unopened_at : (j : ℕ) → (j ≡ k) ⊎ (j ≡ k → ⊥) → r.world.opened < j → ups_after (ups j) (mine j outs) ≡ []
-  unopened_at j (inl e) i = subst (λ n. ups_after (ups n) (mine n outs) ≡ []) (sym e) (ups_here ∙ unopened k (subst (λ n. r.world.opened < n) e i))
-  unopened_at j (inr e) i = ups_else j e ∙ ap (λ (p : Conn). p.up) (st.shape.unopened j i)
+  unopened_at : (j : ℕ) → (j ≡ k) ⊎ (j ≡ k → ⊥) → r.world.opened < j → inbounds_after (inbounds j) (mine j outs) ≡ []
+  unopened_at j (inl e) i = subst (λ n. inbounds_after (inbounds n) (mine n outs) ≡ []) (sym e) (inbounds_here ∙ unopened k (subst (λ n. r.world.opened < n) e i))
+  unopened_at j (inr e) i = inbounds_else j e ∙ ap (λ (p : Conn). p.inbound) (st.shape.unopened j i)
 
   many : length (v.state.sessions ++ session ∷ []) ≡ a
   many = length-append v.state.sessions (session ∷ []) ∙ omega arith
@@ -137,7 +137,7 @@ module _ (s : State) (r : Run) (v : Server.Server) (k : ℕ) (l : Link) (name : 
   pub keeps_join_stopped : (w : World.World) → w.clients ≡ r.world.clients → w.opened ≡ r.world.opened → w.conns ≡ qs
       → Invariant.Inv s (record r { world = World.stopped w (joined v.state l.key (Server.name_of name)); log = r.log ++ Join (suc (length v.state.sessions)) l.key (Server.name_of name) ∷ [] })
   keeps_join_stopped w c o q = keeps_stopping s r (record r { world = World.stopped w (joined v.state l.key (Server.name_of name)); log = r.log ++ Join (suc (length v.state.sessions)) l.key (Server.name_of name) ∷ [] }) [] st (record {
-    seats = λ d. ap (λ m. seat_in (get m d)) c;
+    slots = λ d. ap (λ m. slot_in (get m d)) c;
     batches = λ d. refl;
     opened = o;
     log = updates_of-append r.log (Join a l.key (Server.name_of name) ∷ []);
@@ -153,11 +153,11 @@ module _ (s : State) (r : Run) (v : Server.Server) (k : ℕ) (l : Link) (name : 
   })
 
   pub keeps_join : Invariant.Inv s t
-  keeps_join = keeps_welcome s r t k l now (record { actor = a; key = l.key }) users (λ j. mine j outs) (λ j. ups_after (ups j) (mine j outs)) st
+  keeps_join = keeps_welcome s r t k l now (record { actor = a; key = l.key }) users (λ j. mine j outs) (λ j. inbounds_after (inbounds j) (mine j outs)) st
       (λ d. refl) (λ d. refl) refl (updates_of-append r.log (Join a l.key (Server.name_of name) ∷ []) ∙ append-nil (updates_of r.log)) refl
       (hosts_after (subst Invariant.Hosts runs st.shape.hosts))
       logged_after
-      (λ j. delivered r qs ups outs j (conns j))
+      (λ j. delivered r qs inbounds outs j (conns j))
       (λ j e. deliver_there qs outs j (there j e))
       (λ j e. unopened_at j (cases_eq j k) e)
       (link_is k ∙ attached) bare (get_same v.links k now) refl refl (omega arith) (omega (arith, many))
@@ -167,7 +167,7 @@ module _ (s : State) (r : Run) (v : Server.Server) (k : ℕ) (l : Link) (name : 
       let old = subst (λ (z : State). Invariant.Stands s z.sessions w) state_is h in
       record { session = old.session; is = session_join v.state.sessions session old.session w.actor old.is; key = old.key; some = old.some; since = old.since })
       sends_here
-      (λ j e. inl (get_other v.links k now j e ∙ sym (link_is j), sends_else j e, ups_else j e))
+      (λ j e. inl (get_other v.links k now j e ∙ sym (link_is j), sends_else j e, inbounds_else j e))
       (λ d o u.
       let f = popped d o u in
-      (ups_here ∙ f.0, λ e. last_past s.sessions a (omega (arith, logged.more)), λ e. inr (f.1 e, fresh)))
+      (inbounds_here ∙ f.0, λ e. last_past s.sessions a (omega (arith, logged.more)), λ e. inr (f.1 e, fresh)))

@@ -136,5 +136,5 @@ module _ (cs : Kids) (sorted : T (is_sorted (slice_cmp nat_cmp) cs)) (positions 
   pub moved_pos : (f t : ℕ) → f < length cs → t < length cs → IsPosUnlessLong (moved_key cs f t)
   moved_pos f t l m =
       by_test (nat_lt f t) _ _
-      (λ up. by_test (t + 1 == length cs) (after_position (key_at cs t)) _ (λ e. after_at t m) (λ inner. between_at t (t + 1) (omega arith) (grind (arith, nat_tests, inner, m))))
-      (λ down. by_test (t == 0) (before_position (key_at cs 0)) _ (λ e. before_at 0 (omega (arith, m))) (λ behind. between_at (t - 1) t (grind (arith, nat_tests, behind)) m))
+      (λ inbound. by_test (t + 1 == length cs) (after_position (key_at cs t)) _ (λ e. after_at t m) (λ inner. between_at t (t + 1) (omega arith) (grind (arith, nat_tests, inner, m))))
+      (λ outbound. by_test (t == 0) (before_position (key_at cs 0)) _ (λ e. before_at 0 (omega (arith, m))) (λ behind. between_at (t - 1) t (grind (arith, nat_tests, behind)) m))

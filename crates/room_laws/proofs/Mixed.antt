@@ -8,7 +8,7 @@ use Rattle.room_msg.specs.declared.messages.ClientMsg.TheVariants as client
 use Rattle.room_msg.specs.declared.messages.ServerMsg.TheVariants as server
 use Rattle.room_log.specs.Log.{State, Session, Entry, Updated, Update, session_of, updated, ops_of}
 use Rattle.room_model.specs.Server
-use Rattle.room_model.specs.Server.{Down, Message, Link, Served, to_each, has_fetched}
+use Rattle.room_model.specs.Server.{Outbound, Message, Link, Served, to_each, has_fetched}
 use Rattle.room_model.specs.World
 use Rattle.room_model.specs.World.{Conn, Fuse, deliver}
 use Rattle.room_model.specs.Run.{Run, IsUndisturbed}
@@ -17,6 +17,7 @@ use Rattle.room_laws.proofs.Maps.{mine, given_all, deliver_at}
 use Rattle.room_laws.proofs.Talks.{Reached, run_of, talk, talk_all, deliver-append, or_none}
 use Rattle.room_laws.proofs.Serves.{act_entry, waits_none}
 use Rattle.room_laws.proofs.Commits.{keeps_commit}
+use Rattle.room_laws.proofs.Acting.{act_from}
 
 -- a message without operations leaves the state
 fetched_state : (v : Server.Server) (k : ℕ) (o : Option Link) → (Server.fetched_at v k o).state ≡ v.state
@@ -30,14 +31,14 @@ act_state v k a (client.Broadcast e) = refl
 act_state v k a client.Fetch = fetched_state v k (get v.links k)
 act_state v k a (client.Update os) = refl
 
-entry_stays : (k a : ℕ) (ms : List ClientMsg) (sv : Served) → (Server.act_all sv k a None ms).entry ≡ sv.entry
+entry_stays : (k a : ℕ) (ms : List ClientMsg) (sv : Served) → (act_from sv k a None ms).entry ≡ sv.entry
 entry_stays k a [] sv = refl
-entry_stays k a (m ∷ ms) sv = subst (λ (x : Option Update). (Server.act_all (Server.then_served sv (Server.acts sv.server k a None m)) k a x ms).entry ≡ sv.entry) (sym (waits_none m))
+entry_stays k a (m ∷ ms) sv = subst (λ (x : Option Update). (act_from (Server.then_served sv (Server.acts sv.server k a None m)) k a x ms).entry ≡ sv.entry) (sym (waits_none m))
     (entry_stays k a ms (Server.then_served sv (Server.acts sv.server k a None m)) ∙ ap (Server.or_entry sv.entry) (act_entry sv.server k a m) ∙ or_none sv.entry)
 
-owner_stays : (q : Conn) (ms : List Down) → (given_all q ms).owner ≡ q.owner
+owner_stays : (q : Conn) (ms : List Outbound) → (given_all q ms).owner ≡ q.owner
 owner_stays q [] = refl
-owner_stays q (m ∷ ms) = owner_stays (World.with_down q m) ms
+owner_stays q (m ∷ ms) = owner_stays (World.with_outbound q m) ms
 
 -- w: the world without the frame; the update n is taken of the state `now`
 module _ (s : State) (r : Run) (w : World.World) (k a : ℕ) (now : State) (n : Update) (x : Session)
@@ -79,22 +80,22 @@ module _ (s : State) (r : Run) (w : World.World) (k a : ℕ) (now : State) (n : 
           };
           log = z ++ Updated n ∷ [];
         })) (ap (λ e. r.log ++ World.entries_in e) h.none ∙ append-nil r.log)
-        (keeps_commit s (run_of s r w k a sv f) sv.server k h.reached.link n x (deliver w.conns sv.outs) (λ j. (Invariant.conn (run_of s r w k a sv f).world j).up) f (h.reached.stands f)
+        (keeps_commit s (run_of s r w k a sv f) sv.server k h.reached.link n x (deliver w.conns sv.outs) (λ j. (Invariant.conn (run_of s r w k a sv f).world j).inbound) f (h.reached.stands f)
         refl h.reached.attached (h.reached.named ∙ ap Some (sym actor))
         (ap (λ (z : State). session_of z.sessions n.actor) h.state ∙ known) first some
         (subst (λ (z : State). tree_in (items_of (updated z n).tree) ≡ Some (updated z n).tree) (sym h.state) spelled)
-        (λ j. refl) (λ j e. e) (λ j e. refl) (λ j e. ap (λ (q : Conn). q.up) ((h.reached.stands f).shape.unopened j e))
+        (λ j. refl) (λ j e. e) (λ j e. refl) (λ j e. ap (λ (q : Conn). q.inbound) ((h.reached.stands f).shape.unopened j e))
         (λ d o i. absurd (nobody sv d o i)) (λ d o i. absurd (nobody sv d o i))));
   }
 
-  walk : (ms : List ClientMsg) (sv : Served) → Waiting sv → ((Server.act_all sv k a (Some n) ms).entry ≡ Some (Updated n) → Spelled) → Done (Server.act_all sv k a (Some n) ms)
+  walk : (ms : List ClientMsg) (sv : Served) → Waiting sv → ((act_from sv k a (Some n) ms).entry ≡ Some (Updated n) → Spelled) → Done (act_from sv k a (Some n) ms)
   walk [] sv h f = record { reached = h.reached; entry = inl h.none }
   walk (client.Hello m ∷ ms) sv h f = walk ms (Server.then_served sv (Server.acts sv.server k a None (client.Hello m))) (step sv (client.Hello m) h) f
   walk (client.Presence target patch ∷ ms) sv h f = walk ms (Server.then_served sv (Server.acts sv.server k a None (client.Presence target patch))) (step sv (client.Presence target patch) h) f
   walk (client.Broadcast e ∷ ms) sv h f = walk ms (Server.then_served sv (Server.acts sv.server k a None (client.Broadcast e))) (step sv (client.Broadcast e) h) f
   walk (client.Fetch ∷ ms) sv h f = walk ms (Server.then_served sv (Server.acts sv.server k a None client.Fetch)) (step sv client.Fetch h) f
   walk (client.Update os ∷ ms) sv h f =
-      let entry : (Server.act_all (Server.then_served sv (Server.commit sv.server n)) k a None ms).entry ≡ Some (Updated n) =
+      let entry : (act_from (Server.then_served sv (Server.commit sv.server n)) k a None ms).entry ≡ Some (Updated n) =
       entry_stays k a ms (Server.then_served sv (Server.commit sv.server n)) ∙ ap (λ e. Server.or_entry e (Some (Updated n))) h.none in
       record {
         reached = talk_all s r w k a ms (Server.then_served sv (Server.commit sv.server n)) (commits sv h (f entry));
@@ -102,5 +103,5 @@ module _ (s : State) (r : Run) (w : World.World) (k a : ℕ) (now : State) (n : 
       }
 
   pub mixed : (v : Server.Server) (ms : List ClientMsg) → v.state ≡ now → Reached s r w k a (Server.nothing v)
-      → ((Server.act_all (Server.nothing v) k a (Some n) ms).entry ≡ Some (Updated n) → Spelled) → Done (Server.act_all (Server.nothing v) k a (Some n) ms)
+      → ((act_from (Server.nothing v) k a (Some n) ms).entry ≡ Some (Updated n) → Spelled) → Done (act_from (Server.nothing v) k a (Some n) ms)
   mixed v ms e h f = walk ms (Server.nothing v) (record { reached = h; none = refl; state = e }) f

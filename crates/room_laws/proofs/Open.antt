@@ -17,7 +17,7 @@ use Rattle.room_model.specs.Edits.{Edit, EditFault, Made, make, fields_most}
 use Rattle.room_nodes.specs.Reversal.{reverse, reverse_all}
 use Rattle.room_model.specs.Account.{Account, Batch, OpenBatch, Stage, Idle, Dialled, Connected, Synced, issued, all_bodies, bodies_in, shown, shown_over, clocks, is_on, open_ops, size_of, frame_of_ops, frame_of_event, is_some_list}
 use Rattle.room_model.specs.Calls as calls
-use Rattle.room_model.specs.Comes
+use Rattle.room_model.specs.Receive
 use Rattle.room_laws.specs.Open.{base, base_over, GoesBack, IsOpenOn, Notes, KeepsOpen, brings_none}
 use Rattle.room_laws.proofs.Settled.{fold-append}
 use Rattle.room_laws.proofs.Facts.{some_is, ok_is, under, over}
@@ -183,52 +183,52 @@ resent_same x Synced e = rw e (record { confirmed = refl; issued = append-nil (i
 
 -- messages
 
-once_same : (x : Account) (kind : ℕ) (res out : Comes.Took) → Same x res.account → Comes.once_on x kind res ≡ Ok out → Same x out.account
-once_same x kind res out h p = subst (λ (d : Comes.Took). Same x d.account) (over (is_on x.stage) _ res out p) h
+once_same : (x : Account) (kind : ℕ) (res out : Receive.Received) → Same x res.account → Receive.once_on x kind res ≡ Ok out → Same x out.account
+once_same x kind res out h p = subst (λ (d : Receive.Received). Same x d.account) (over (is_on x.stage) _ res out p) h
 
-welcomed_same : (x : Account) (a key : ℕ) → Same x (Comes.welcomed x a key).account
+welcomed_same : (x : Account) (a key : ℕ) → Same x (Receive.welcomed x a key).account
 welcomed_same x a key = record { confirmed = refl; issued = refl; batch = refl }
 
-named_same : (x : Account) (a key : ℕ) (o : Option Resume) (out : Comes.Took) → Comes.welcomed_as x a key o ≡ Ok out → Same x out.account
-named_same x a key None out p = subst (λ (d : Comes.Took). Same x d.account) (ok_is _ _ p) (welcomed_same x a key)
-named_same x a key (Some w) out p = subst (λ (d : Comes.Took). Same x d.account) (over (w.actor == a) _ (Comes.welcomed x a key) out p) (welcomed_same x a key)
+named_same : (x : Account) (a key : ℕ) (o : Option Resume) (out : Receive.Received) → Receive.welcomed_as x a key o ≡ Ok out → Same x out.account
+named_same x a key None out p = subst (λ (d : Receive.Received). Same x d.account) (ok_is _ _ p) (welcomed_same x a key)
+named_same x a key (Some w) out p = subst (λ (d : Receive.Received). Same x d.account) (over (w.actor == a) _ (Receive.welcomed x a key) out p) (welcomed_same x a key)
 
-room_same : (x : Account) (a key : ℕ) (g : Stage) (out : Comes.Took) → Comes.room_comes x a key g ≡ Ok out → Same x out.account
+room_same : (x : Account) (a key : ℕ) (g : Stage) (out : Receive.Received) → Receive.receive_room x a key g ≡ Ok out → Same x out.account
 room_same x a key Dialled out p = named_same x a key x.session out p
 room_same x a key Idle out p = cc
 room_same x a key Connected out p = cc
 room_same x a key Synced out p = cc
 
-pub comes_same : (x : Account) (m : ServerMsg) (out : Comes.Took) → brings_none m ≡ true → Comes.comes x m ≡ Ok out → Same x out.account
-comes_same x (server.Presence a None patch) out b p = once_same x 100 (Comes.took (Comes.presence_taken x a None patch)) out (record { confirmed = refl; issued = refl; batch = refl }) p
-comes_same x (server.Presence a (Some target) patch) out b p = once_same x 100 (Comes.took (Comes.presence_taken x a (Some target) patch)) out (record { confirmed = refl; issued = refl; batch = refl }) p
-comes_same x (server.Joined a) out b p = once_same x 101 _ out (record { confirmed = refl; issued = refl; batch = refl }) p
-comes_same x (server.Left a) out b p = once_same x 102 _ out (record { confirmed = refl; issued = refl; batch = refl }) p
-comes_same x (server.Broadcast a e) out b p = once_same x 103 _ out (record { confirmed = refl; issued = refl; batch = refl }) p
-comes_same x (server.RoomState a key users) out b p = room_same x a key x.stage out p
-comes_same x (server.State seq last items more) out b p = cc
-comes_same x (server.Update seq os) out b p = cc
+pub receive_same : (x : Account) (m : ServerMsg) (out : Receive.Received) → brings_none m ≡ true → Receive.receive x m ≡ Ok out → Same x out.account
+receive_same x (server.Presence a None patch) out b p = once_same x 100 (Receive.received (Receive.presence_taken x a None patch)) out (record { confirmed = refl; issued = refl; batch = refl }) p
+receive_same x (server.Presence a (Some target) patch) out b p = once_same x 100 (Receive.received (Receive.presence_taken x a (Some target) patch)) out (record { confirmed = refl; issued = refl; batch = refl }) p
+receive_same x (server.Joined a) out b p = once_same x 101 _ out (record { confirmed = refl; issued = refl; batch = refl }) p
+receive_same x (server.Left a) out b p = once_same x 102 _ out (record { confirmed = refl; issued = refl; batch = refl }) p
+receive_same x (server.Broadcast a e) out b p = once_same x 103 _ out (record { confirmed = refl; issued = refl; batch = refl }) p
+receive_same x (server.RoomState a key users) out b p = room_same x a key x.stage out p
+receive_same x (server.State seq last items more) out b p = cc
+receive_same x (server.Update seq os) out b p = cc
 
 -- undoing
 
-back_presence : (way : calls.Way) (x : Account) (e : List Change) (b : Batch) (size : ℕ) (out : calls.Done) → calls.back_presence way x e size ≡ Ok (Some out) → out.issues ≡ b ∷ [] → b.bodies ≡ calls.entry_bodies e
+back_presence : (way : calls.Direction) (x : Account) (e : List Change) (b : Batch) (size : ℕ) (out : calls.Done) → calls.back_presence way x e size ≡ Ok (Some out) → out.issues ≡ b ∷ [] → b.bodies ≡ calls.entry_bodies e
 back_presence way x e b size out p i =
     let q = some_is (calls.went_back way x e) out (under (nat_lt _ size) _ (Some (calls.went_back way x e)) (Some out) p) in
     issued_bodies x (calls.entry_bodies e) b (ap (λ (d : calls.Done). d.issues) q ∙ i)
 
-back_sized : (way : calls.Way) (x : Account) (e : List Change) (b : Batch) (c : Bool) (fault : calls.UndoFault) (size : ℕ) (out : calls.Done) → cond c (Err fault) (calls.back_presence way x e size) ≡ Ok (Some out) → out.issues ≡ b ∷ [] → b.bodies ≡ calls.entry_bodies e
+back_sized : (way : calls.Direction) (x : Account) (e : List Change) (b : Batch) (c : Bool) (fault : calls.UndoFault) (size : ℕ) (out : calls.Done) → cond c (Err fault) (calls.back_presence way x e size) ≡ Ok (Some out) → out.issues ≡ b ∷ [] → b.bodies ≡ calls.entry_bodies e
 back_sized way x e b true fault size out p i = cc
 back_sized way x e b false fault size out p i = back_presence way x e b size out p i
 
-back_clocked : (way : calls.Way) (x : Account) (e : List Change) (b : Batch) (o : Option ℕ) (out : calls.Done) → calls.back_clocked way x e (calls.entry_bodies e) o ≡ Ok (Some out) → out.issues ≡ b ∷ [] → b.bodies ≡ calls.entry_bodies e
+back_clocked : (way : calls.Direction) (x : Account) (e : List Change) (b : Batch) (o : Option ℕ) (out : calls.Done) → calls.back_clocked way x e (calls.entry_bodies e) o ≡ Ok (Some out) → out.issues ≡ b ∷ [] → b.bodies ≡ calls.entry_bodies e
 back_clocked way x e b (Some n) out p i = cc
 back_clocked way x e b None out p i = back_sized way x e b (is_some_list (calls.entry_bodies e) && nat_lt _ _) _ (calls.presence_size (calls.entry_presence x.me e)) out p i
 
-back_entry : (way : calls.Way) (x : Account) (e : List Change) (b : Batch) (o : Option (List Change)) (out : calls.Done) → o ≡ Some e → calls.back_entry way x o ≡ Ok (Some out) → out.issues ≡ b ∷ [] → b.bodies ≡ calls.entry_bodies e
+back_entry : (way : calls.Direction) (x : Account) (e : List Change) (b : Batch) (o : Option (List Change)) (out : calls.Done) → o ≡ Some e → calls.back_entry way x o ≡ Ok (Some out) → out.issues ≡ b ∷ [] → b.bodies ≡ calls.entry_bodies e
 back_entry way x e b None out f p i = cc
 back_entry way x e b (Some d) out f p i = back_clocked way x d b _ out p i ∙ ap calls.entry_bodies (some_is d e f)
 
-back_at : (way : calls.Way) (x : Account) (e : List Change) (b : Batch) (o : Option OpenBatch) (out : calls.Done) → calls.entry_of way x.history ≡ Some e → calls.back_at way x o ≡ Ok (Some out) → out.issues ≡ b ∷ [] → b.bodies ≡ calls.entry_bodies e
+back_at : (way : calls.Direction) (x : Account) (e : List Change) (b : Batch) (o : Option OpenBatch) (out : calls.Done) → calls.entry_of way x.history ≡ Some e → calls.back_at way x o ≡ Ok (Some out) → out.issues ≡ b ∷ [] → b.bodies ≡ calls.entry_bodies e
 back_at way x e b (Some o) out f p i = cc
 back_at way x e b None out f p i = back_entry way x e b (calls.entry_of way x.history) out f p i
 
@@ -245,7 +245,7 @@ keeps_open = record {
   resent = λ t x h. open_same t x (calls.resent x) (resent_same x x.stage refl) h;
   lost = λ t x h. open_same t x (calls.lost x) (record { confirmed = refl; issued = refl; batch = refl }) h;
   dialled = λ t x h. open_same t x (calls.dialled x) (record { confirmed = refl; issued = refl; batch = refl }) h;
-  comes = λ t x m out b h p. open_same t x out.account (comes_same x m out b p) h;
+  receive = λ t x m out b h p. open_same t x out.account (receive_same x m out b p) h;
   batch_end = λ t x b out h p i. end_notes t x b out x.batch h.back p i;
   alone = edit_notes;
   go_back = λ way x e b out f p i. back_at way x e b x.batch out f p i;

@@ -13,9 +13,9 @@ use Rattle.room_log.specs.Take.{Nothing, Takes, take}
 use Rattle.room_msg.specs.declared.messages.Resume.{Resume}
 use Rattle.room_model.specs.Account.{actor_in}
 use Rattle.room_model.specs.Server
-use Rattle.room_model.specs.Server.{Link, Up, Served}
-use Rattle.room_model.specs.World.{Conn, Running, state_in}
-use Rattle.room_model.specs.Run.{Run, seat, IsUndisturbed}
+use Rattle.room_model.specs.Server.{Link, Inbound, Served}
+use Rattle.room_model.specs.World.{Conn, Running, state_in, slot}
+use Rattle.room_model.specs.Run.{Run, IsUndisturbed}
 use Rattle.room_laws.specs.Core.{Core, actor}
 use Rattle.room_laws.specs.Queues.{InOrder}
 use Rattle.room_laws.specs.Invariant
@@ -26,9 +26,10 @@ use Rattle.room_laws.proofs.Frames.{talks, updates}
 use Rattle.room_laws.proofs.Commits.{Next, session_same}
 use Rattle.room_laws.proofs.Answering.{Kept, keeps_shut}
 use Rattle.room_laws.proofs.Outcomes.{commits_kept}
-use Rattle.room_laws.proofs.Serves.{talk_kept, ups_of, tail_talk}
+use Rattle.room_laws.proofs.Serves.{talk_kept, inbounds_of, tail_talk}
+use Rattle.room_laws.proofs.Acting.{act_from, taken_from}
 
-module _ (s : State) (r : Run) (v : Server.Server) (k : ℕ) (q : Conn) (u : Up) (us : List Up) (st : Invariant.Inv s r) (there : get r.world.conns k ≡ Some q) (first : q.up ≡ u ∷ us) (runs : r.world.host ≡ Running v)
+module _ (s : State) (r : Run) (v : Server.Server) (k : ℕ) (q : Conn) (u : Inbound) (us : List Inbound) (st : Invariant.Inv s r) (there : get r.world.conns k ≡ Some q) (first : q.inbound ≡ u ∷ us) (runs : r.world.host ≡ Running v)
     (l : Link) (attached : get v.links k ≡ Some l) (a : ℕ) (named : l.actor ≡ Some a) where
   abbrev KeptHere : Served → Type 0
   KeptHere out = Kept s r v k q u us st there first runs out
@@ -39,8 +40,8 @@ module _ (s : State) (r : Run) (v : Server.Server) (k : ℕ) (q : Conn) (u : Up)
   abbrev last : ℕ → ℕ
   last d = last_of (Invariant.sessions r) (actor (X d))
 
-  abbrev UpsLeft : ℕ → Type 0
-  UpsLeft d = Invariant.UpAt ((seat r.world d).present ≡ Some k) (X d).session (Invariant.tried (X d)) (Invariant.issued_by r d) (last d) (Some a) us
+  abbrev InboundsLeft : ℕ → Type 0
+  InboundsLeft d = Invariant.InboundAt ((slot r.world d).present ≡ Some k) (X d).session (Invariant.tried (X d)) (Invariant.issued_by r d) (last d) (Some a) us
 
   free : l.decision ≡ None
   free = by_host (subst Invariant.Hosts runs st.shape.hosts)
@@ -49,13 +50,13 @@ module _ (s : State) (r : Run) (v : Server.Server) (k : ℕ) (q : Conn) (u : Up)
       by_host h = (h.free k l attached).0
 
   -- a message without operations
-  talk_left : (m : ClientMsg) → IsTalk m → u ≡ Ok (frame.Msgs (m ∷ [])) → (d : ℕ) → (Invariant.conn r.world k).owner ≡ Some d → IsUndisturbed r d → UpsLeft d
+  talk_left : (m : ClientMsg) → IsTalk m → u ≡ Ok (frame.Msgs (m ∷ [])) → (d : ℕ) → (Invariant.conn r.world k).owner ≡ Some d → IsUndisturbed r d → InboundsLeft d
   talk_left m i e d o j =
-      let h = ups_of s r v k q u us st there first runs l attached d (Some a) named o j in
+      let h = inbounds_of s r v k q u us st there first runs l attached d (Some a) named o j in
       record {
         some = h.some;
         reach = h.reach;
-        order = tail_talk a (actor (X d)) (Invariant.issued_by r d) (last d) m us h.reach i (subst (λ (x : Up). InOrder a (actor (X d)) (Invariant.issued_by r d) (last d) (x ∷ us) h.reach) e h.order);
+        order = tail_talk a (actor (X d)) (Invariant.issued_by r d) (last d) m us h.reach i (subst (λ (x : Inbound). InOrder a (actor (X d)) (Invariant.issued_by r d) (last d) (x ∷ us) h.reach) e h.order);
         sent = h.sent;
       }
 
@@ -68,18 +69,18 @@ module _ (s : State) (r : Run) (v : Server.Server) (k : ℕ) (q : Conn) (u : Up)
   state_is = ap state_in runs
 
   module _ (os : List Op) (e : u ≡ Ok (frame.Msgs (client.Update os ∷ []))) where
-    order_of : (d : ℕ) (o : (Invariant.conn r.world k).owner ≡ Some d) (j : IsUndisturbed r d) → InOrder a (actor (X d)) (Invariant.issued_by r d) (last d) (Ok (frame.Msgs (client.Update os ∷ [])) ∷ us) (ups_of s r v k q u us st there first runs l attached d (Some a) named o j).reach
-    order_of d o j = let h = ups_of s r v k q u us st there first runs l attached d (Some a) named o j in
-        subst (λ (x : Up). InOrder a (actor (X d)) (Invariant.issued_by r d) (last d) (x ∷ us) h.reach) e h.order
+    order_of : (d : ℕ) (o : (Invariant.conn r.world k).owner ≡ Some d) (j : IsUndisturbed r d) → InOrder a (actor (X d)) (Invariant.issued_by r d) (last d) (Ok (frame.Msgs (client.Update os ∷ [])) ∷ us) (inbounds_of s r v k q u us st there first runs l attached d (Some a) named o j).reach
+    order_of d o j = let h = inbounds_of s r v k q u us st there first runs l attached d (Some a) named o j in
+        subst (λ (x : Inbound). InOrder a (actor (X d)) (Invariant.issued_by r d) (last d) (x ∷ us) h.reach) e h.order
 
     mine_is : (d : ℕ) (o : (Invariant.conn r.world k).owner ≡ Some d) (j : IsUndisturbed r d) → a ≡ actor (X d)
     mine_is d o j = (order_of d o j).mine
 
     pub outcome_of : (d : ℕ) (o : (Invariant.conn r.world k).owner ≡ Some d) (j : IsUndisturbed r d) (h : ClientOf s r d)
-        → Batched v.state a h.own.ledger.accepted h.own.ledger.rest (Invariant.issued_by r d) (last d) os us (ups_of s r v k q u us st there first runs l attached d (Some a) named o j).reach
-    outcome_of d o j h = batched v.state a h.own.ledger.accepted h.own.ledger.rest (Invariant.issued_by r d) (last d) os us (ups_of s r v k q u us st there first runs l attached d (Some a) named o j).reach
+        → Batched v.state a h.own.ledger.accepted h.own.ledger.rest (Invariant.issued_by r d) (last d) os us (inbounds_of s r v k q u us st there first runs l attached d (Some a) named o j).reach
+    outcome_of d o j h = batched v.state a h.own.ledger.accepted h.own.ledger.rest (Invariant.issued_by r d) (last d) os us (inbounds_of s r v k q u us st there first runs l attached d (Some a) named o j).reach
         h.own.ledger.all_is h.own.ledger.chain h.own.ledger.last_is (ap (last_of v.state.sessions) (mine_is d o j) ∙ ap (λ (z : State). last_of z.sessions (actor (X d))) (sym state_is))
-        (subst (λ i. InOrder a i (Invariant.issued_by r d) (last d) (Ok (frame.Msgs (client.Update os ∷ [])) ∷ us) (ups_of s r v k q u us st there first runs l attached d (Some a) named o j).reach) (sym (mine_is d o j)) (order_of d o j))
+        (subst (λ i. InOrder a i (Invariant.issued_by r d) (last d) (Ok (frame.Msgs (client.Update os ∷ [])) ∷ us) (inbounds_of s r v k q u us st there first runs l attached d (Some a) named o j).reach) (sym (mine_is d o j)) (order_of d o j))
 
     nothing_takes : (n : Update) → take v.state a os ≡ Nothing → take v.state a os ≡ Takes n → ⊥
     nothing_takes n f g = no (sym f ∙ g)
@@ -93,24 +94,24 @@ module _ (s : State) (r : Run) (v : Server.Server) (k : ℕ) (q : Conn) (u : Up)
         same : Takes n ≡ Takes m → n ≡ m
         same i = cc
 
-    pub serve_takes : (d : ℕ) (o : (Invariant.conn r.world k).owner ≡ Some d) (j : IsUndisturbed r d) → Server.serve v k u ≡ Server.taken v k l a (client.Update os ∷ []) (take v.state a os)
+    pub serve_takes : (d : ℕ) (o : (Invariant.conn r.world k).owner ≡ Some d) (j : IsUndisturbed r d) → Server.serve v k u ≡ taken_from v k l a (client.Update os ∷ []) (take v.state a os)
     serve_takes d o j =
         let h = order_of d o j in
         let ops : os ≡ ops_from a h.batch.first h.batch.bodies = h.ops ∙ ap (λ i. ops_from i h.batch.first h.batch.bodies) (sym h.mine) in
-        ap (Server.serve v k) e ∙ subst (λ (ps : List Op). Server.serve v k (Ok (frame.Msgs (client.Update ps ∷ []))) ≡ Server.taken v k l a (client.Update ps ∷ []) (take v.state a ps)) (sym ops)
+        ap (Server.serve v k) e ∙ subst (λ (ps : List Op). Server.serve v k (Ok (frame.Msgs (client.Update ps ∷ []))) ≡ taken_from v k l a (client.Update ps ∷ []) (take v.state a ps)) (sym ops)
         (updates v k a h.batch.first h.batch.bodies l attached named free)
 
     -- the log has it already
-    old_left : take v.state a os ≡ Nothing → (d : ℕ) → (Invariant.conn r.world k).owner ≡ Some d → IsUndisturbed r d → UpsLeft d
+    old_left : take v.state a os ≡ Nothing → (d : ℕ) → (Invariant.conn r.world k).owner ≡ Some d → IsUndisturbed r d → InboundsLeft d
     old_left f d o j =
-        let h = ups_of s r v k q u us st there first runs l attached d (Some a) named o j in
+        let h = inbounds_of s r v k q u us st there first runs l attached d (Some a) named o j in
         ⊎_elim
         (λ g. record { some = h.some; reach = h.reach; order = subst (λ i. InOrder a i (Invariant.issued_by r d) (last d) us h.reach) (mine_is d o j) g.1; sent = h.sent })
         (λ g. absurd (nothing_takes _ f g.takes))
         (outcome_of d o j (st.client d j)).outcome
 
     old_kept : (d : ℕ) → (Invariant.conn r.world k).owner ≡ Some d → IsUndisturbed r d → take v.state a os ≡ Nothing → KeptHere (Server.serve v k u)
-    old_kept d o j f = subst KeptHere (sym (serve_takes d o j ∙ ap (Server.taken v k l a (client.Update os ∷ [])) f))
+    old_kept d o j f = subst KeptHere (sym (serve_takes d o j ∙ ap (taken_from v k l a (client.Update os ∷ [])) f))
         (talk_kept s r v k q u us st there first runs l attached a (client.Update os ∷ []) named (old_left f))
 
     -- or it is the next batch
@@ -134,9 +135,9 @@ module _ (s : State) (r : Run) (v : Server.Server) (k : ℕ) (q : Conn) (u : Up)
       last_next = ap last_in (subst (λ b. session_of (updated v.state n).sessions b ≡ Some (record x { last = last_from n.first n.bodies })) actor_is
           (session_same v.state.sessions n.actor (last_from n.first n.bodies) x (ap (session_of v.state.sessions) actor_is ∙ known)))
 
-      next_left : (d : ℕ) → (Invariant.conn r.world k).owner ≡ Some d → IsUndisturbed r d → Invariant.Ups ((seat r.world d).present ≡ Some k) (X d).session (Invariant.tried (X d)) (Invariant.issued_by r d) (last_of (updated v.state n).sessions (actor (X d))) (Some l) us
+      next_left : (d : ℕ) → (Invariant.conn r.world k).owner ≡ Some d → IsUndisturbed r d → Invariant.Inbounds ((slot r.world d).present ≡ Some k) (X d).session (Invariant.tried (X d)) (Invariant.issued_by r d) (last_of (updated v.state n).sessions (actor (X d))) (Some l) us
       next_left d o j =
-          let h = ups_of s r v k q u us st there first runs l attached d (Some a) named o j in
+          let h = inbounds_of s r v k q u us st there first runs l attached d (Some a) named o j in
           ⊎_elim
           (λ g. absurd (nothing_takes n g.0 takes))
           (λ g.
@@ -155,11 +156,11 @@ module _ (s : State) (r : Run) (v : Server.Server) (k : ℕ) (q : Conn) (u : Up)
       pub next_kept : (d : ℕ) → (Invariant.conn r.world k).owner ≡ Some d → IsUndisturbed r d → n.first ≡ x.last + 1 → 0 < length n.bodies
           → ((Server.serve v k u).entry ≡ Some (Updated n) → tree_in (items_of (updated v.state n).tree) ≡ Some (updated v.state n).tree) → KeptHere (Server.serve v k u)
       next_kept d o j begins some spelled =
-          let answer = serve_takes d o j ∙ ap (Server.taken v k l a (client.Update os ∷ [])) takes in
+          let answer = serve_takes d o j ∙ ap (taken_from v k l a (client.Update os ∷ [])) takes in
           subst KeptHere (sym answer) (by_full (nat_le v.limits.updates v.state.count) answer)
         where
-          by_full : (b : Bool) → Server.serve v k u ≡ cond b (Server.shut v k l 4406 (codes "room full " ++ decimal v.state.count)) (Server.act_all (Server.nothing v) k a (Some n) (client.Update os ∷ []))
-              → KeptHere (cond b (Server.shut v k l 4406 (codes "room full " ++ decimal v.state.count)) (Server.act_all (Server.nothing v) k a (Some n) (client.Update os ∷ [])))
+          by_full : (b : Bool) → Server.serve v k u ≡ cond b (Server.shut v k l 4406 (codes "room full " ++ decimal v.state.count)) (act_from (Server.nothing v) k a (Some n) (client.Update os ∷ []))
+              → KeptHere (cond b (Server.shut v k l 4406 (codes "room full " ++ decimal v.state.count)) (act_from (Server.nothing v) k a (Some n) (client.Update os ∷ [])))
           by_full true answer = keeps_shut s r v k q u us st there first runs l 4406 (codes "room full " ++ decimal v.state.count) attached
           by_full false answer = commits_kept s r v k q u us st there first runs l n x attached (named ∙ ap Some (sym actor_is)) (ap (session_of v.state.sessions) actor_is ∙ known) begins some (spelled (ap (λ (z : Served). z.entry) answer)) next_is next_left
 
@@ -176,13 +177,13 @@ module _ (s : State) (r : Run) (v : Server.Server) (k : ℕ) (q : Conn) (u : Up)
         (λ g.
         let n : Update = record { actor = a; first = g.batch.first; bodies = settle_all v.state.tree g.batch.bodies } in
         let mine : a ≡ actor (X c) = mine_is os e c owner calm in
-        let x = session_at (X c).session (st.client c calm).stands (subst (λ i. 0 < i) mine (ups_of s r v k q u us st there first runs l attached c (Some a) named owner calm).some) in
+        let x = session_at (X c).session (st.client c calm).stands (subst (λ i. 0 < i) mine (inbounds_of s r v k q u us st there first runs l attached c (Some a) named owner calm).some) in
         let known : session_of v.state.sessions a ≡ Some x.0 = ap (session_of v.state.sessions) mine ∙ ap (λ (z : State). session_of z.sessions (actor (X c))) (sym state_is) ∙ x.1 in
         let clock : last c ≡ x.0.last = ap last_in x.1 in
         next_kept os e n g.takes refl x.0 known c owner calm (omega (arith, g.first, clock)) (omega (arith, g.some, length-settle_all v.state.tree g.batch.bodies)) (spelled n))
         (outcome_of os e c owner calm (st.client c calm)).outcome
 
-    by_head : (y : Up) (reach : ℕ) → u ≡ y → InOrder a (actor (X c)) (Invariant.issued_by r c) (last c) (y ∷ us) reach → KeptHere (Server.serve v k u)
+    by_head : (y : Inbound) (reach : ℕ) → u ≡ y → InOrder a (actor (X c)) (Invariant.issued_by r c) (last c) (y ∷ us) reach → KeptHere (Server.serve v k u)
     by_head (Err x) reach e h = absurd h
     by_head (Ok frame.Ping) reach e h = absurd h
     by_head (Ok (frame.Msgs [])) reach e h = absurd h
@@ -195,5 +196,5 @@ module _ (s : State) (r : Run) (v : Server.Server) (k : ℕ) (q : Conn) (u : Up)
 
     pub own_frame_kept : KeptHere (Server.serve v k u)
     own_frame_kept =
-        let h = ups_of s r v k q u us st there first runs l attached c (Some a) named owner calm in
+        let h = inbounds_of s r v k q u us st there first runs l attached c (Some a) named owner calm in
         by_head u h.reach refl h.order

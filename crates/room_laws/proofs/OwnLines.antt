@@ -7,25 +7,25 @@ use Rattle.std.specs.FinMap.{FinMap, get}
 use Rattle.std.specs.Ordering.{nat_cmp}
 use Rattle.room_msg.specs.declared.messages.Resume.{Resume}
 use Rattle.room_msg.specs.declared.messages.ClientMsg.{ClientMsg}
-use Rattle.room_log.specs.Log
 use Rattle.room_log.specs.Log.{State, Update, last_of, updates_of}
 use Rattle.room_model.specs.Notices
 use Rattle.room_model.specs.Run
 use Rattle.room_model.specs.Account.{Account, Batch, Stage, Idle, Dialled, Connected, Synced, actor_in, frame_of}
 use Rattle.room_model.specs.Calls as calls
-use Rattle.room_model.specs.Server.{Up}
+use Rattle.room_model.specs.Server.{Inbound}
 use Rattle.room_model.specs.World
-use Rattle.room_model.specs.Run.{Run, seat, seat_in, account, with_step, all_given, IsUndisturbed}
+use Rattle.room_model.specs.World.{slot, slot_in, account}
+use Rattle.room_model.specs.Run.{Run, with_step, all_given, IsUndisturbed}
 use Rattle.room_laws.specs.Core.{Core, core, actor, issued}
 use Rattle.room_laws.specs.Queues.{IsOn}
 use Rattle.room_laws.specs.Invariant
 use Rattle.room_laws.proofs.Maps.{cut, cut_here, cut_else, cut_there, conn_same, conn_other, get_same, get_other}
 use Rattle.room_laws.proofs.Owns.{sent_all}
-use Rattle.room_laws.proofs.Calls.{Called, keeps_call, called_session, seat_same, seat_other}
+use Rattle.room_laws.proofs.Calls.{Called, keeps_call, called_session, slot_same, slot_other}
 use Rattle.room_laws.proofs.Cuts.{CutOff, keeps_cut}
 use Rattle.room_laws.proofs.Dials.{Dialed, keeps_dialed, opened_at_host}
 use Rattle.room_laws.proofs.RunSteps.{updates_of-nil}
-use Rattle.room_laws.proofs.Sends.{Turn, Turned, turns, sent_up, sent_on}
+use Rattle.room_laws.proofs.Sends.{Turn, Turned, turns, sent_inbound, sent_on}
 use Rattle.room_laws.proofs.Speaks.{flush_to, flush_core, resent_core, said, flush_says, flush_said, resend_says, resend_said, send_said, send_append, send_fresh, send_issued, Sendable, turned_said, turned_sent}
 use Rattle.room_laws.proofs.Facts.{some_is, none_some}
 
@@ -33,62 +33,36 @@ use Rattle.room_laws.proofs.Facts.{some_is, none_some}
 pub keeps_saying : (s : State) (r : Run) (ls : List (List ℕ)) → Invariant.Inv s r → Invariant.Inv s (with_step r (World.saying r.world ls))
 keeps_saying s r ls h = rw (append-nil r.log, append-nil r.issued, append-nil r.given) h
 
-pub unstep : (s : State) (r : Run) (w : World.World) (log : List Log.Entry) (issued : List (ℕ × Batch)) (given : List (ℕ × Option ℕ)) → log ≡ r.log → issued ≡ r.issued → given ≡ r.given
-    → Invariant.Inv s (record { world = w; log = log; issued = issued; given = given }) → Invariant.Inv s (record r { world = w })
-unstep s r w log issued given e f g h = rw (← e, ← f, ← g) h
-
--- a client is there from its first line on
-pub keeps_seated : (s : State) (r : Run) (c : ℕ) (o : Option World.Seat) → get r.world.clients c ≡ o → Invariant.Inv s r → Invariant.Inv s (record r { world = World.seated_at r.world c o })
-keeps_seated s r c (Some p) e h = h
-keeps_seated s r c None e h =
-    let same : seat r.world c ≡ World.new_seat = ap seat_in e in
-    unstep s r (World.with_seat r.world c World.new_seat) (r.log ++ []) (r.issued ++ []) (r.given ++ []) (append-nil r.log) (append-nil r.issued) (append-nil r.given)
-    (keeps_call s r c World.new_seat [] [] h (ap (λ (z : World.Seat). z.present) (sym same)) (ap (λ (z : World.Seat). (z.account).session) (sym same))
-    (λ u. inl (ap (λ (z : World.Seat). core z.account) (sym same), refl)))
-
-pub seated_there : (w : World.World) (c : ℕ) (o : Option World.Seat) → get w.clients c ≡ o → get (World.seated_at w c o).clients c ≡ Some (seat_in o)
-seated_there w c (Some p) e = e
-seated_there w c None e = get_same w.clients c World.new_seat
-
 -- frames go up on the present connection: y is the account afterwards
-module _ (s : State) (r : Run) (c : ℕ) (p : World.Seat) (there : get r.world.clients c ≡ Some p) (st : Invariant.Inv s r) where
-  is_seat : seat r.world c ≡ p
-  is_seat = ap seat_in there
+module _ (s : State) (r : Run) (c : ℕ) (st : Invariant.Inv s r) where
+  abbrev p : World.Slot
+  p = slot r.world c
 
   abbrev x : Core
   x = Invariant.core_of r.world c
 
-  is_core : core p.account ≡ x
-  is_core = ap (λ (z : World.Seat). core z.account) (sym is_seat)
-
-  account_seat : (y : Account) (n : Option ℕ) → p.present ≡ n → (World.with_account p y).present ≡ (seat r.world c).present
-  account_seat y n e = ap (λ (z : World.Seat). z.present) (sym is_seat)
-
   -- a call that answers an account
-  pub keeps_account : (y : Account) → Called (core p.account) (core y) [] → Invariant.Inv s (with_step r (World.quiet (World.with_seat r.world c (World.with_account p y))))
-  keeps_account y called = keeps_call s r c (World.with_account p y) [] [] st (account_seat y p.present refl)
-      (called_session (core p.account) (core y) [] called ∙ ap (λ (z : Core). z.session) is_core)
-      (λ u. subst (λ (z : Core). Called z (core y) []) is_core called)
+  pub keeps_account : (y : Account) → Called (core p.account) (core y) [] → Invariant.Inv s (with_step r (World.quiet (World.with_slot r.world c (World.with_account p y))))
+  keeps_account y called = keeps_call s r c (World.with_account p y) [] [] st refl (called_session (core p.account) (core y) [] called) (λ u. called)
 
   pub keeps_done : (d : calls.Done) (n : List Notices.Notice) → Called (core p.account) (core (d.account)) (d.issues)
-      → Invariant.Inv s (with_step r (record (World.quiet (World.with_seat r.world c (record { account = d.account; present = p.present; noticed = n }))) { issues = World.issued_by c d.issues }))
-  keeps_done d n called = keeps_call s r c (record { account = d.account; present = p.present; noticed = n }) [] d.issues st (ap (λ (z : World.Seat). z.present) (sym is_seat))
-      (called_session (core p.account) (core d.account) d.issues called ∙ ap (λ (z : Core). z.session) is_core)
-      (λ u. subst (λ (z : Core). Called z (core d.account) d.issues) is_core called)
+      → Invariant.Inv s (with_step r (record (World.quiet (World.with_slot r.world c (record { account = d.account; present = p.present; noticed = n }))) { issues = World.issued_by c d.issues }))
+  keeps_done d n called = keeps_call s r c (record { account = d.account; present = p.present; noticed = n }) [] d.issues st refl
+      (called_session (core p.account) (core d.account) d.issues called) (λ u. called)
 
   -- speaking
   turn_at : (k : ℕ) (y : Account) (fs : List (List ClientMsg)) → p.present ≡ Some k
-      → Turn r (with_step r (World.quiet (World.send_up (World.with_seat r.world c (World.with_account p y)) k (map World.frame_up fs)))) c k (World.with_account p y) (Invariant.conn r.world k).down (map World.frame_up fs)
+      → Turn r (with_step r (World.quiet (World.send_inbound (World.with_slot r.world c (World.with_account p y)) k (map World.inbound_frame fs)))) c k (World.with_account p y) (Invariant.conn r.world k).outbound (map World.inbound_frame fs)
   turn_at k y fs e =
-      let w : World.World = World.with_seat r.world c (World.with_account p y) in
-      let v = sent_up w k (map World.frame_up fs) (λ m i. st.shape.there k m i) in
+      let w : World.World = World.with_slot r.world c (World.with_account p y) in
+      let v = sent_inbound w k (map World.inbound_frame fs) (λ m i. st.shape.there k m i) in
       record {
         host = v.host;
         opened = v.opened;
-        before = ap (λ (z : World.Seat). z.present) is_seat ∙ e;
+        before = e;
         after = e;
-        seat_is = ap (λ (m : FinMap nat_cmp World.Seat). seat_in (get m c)) v.clients ∙ seat_same r.world c (World.with_account p y);
-        seats = λ d i. ap (λ (m : FinMap nat_cmp World.Seat). seat_in (get m d)) v.clients ∙ seat_other r.world c d (World.with_account p y) i;
+        slot_is = ap (λ (m : FinMap nat_cmp World.Slot). slot_in (get m c)) v.clients ∙ slot_same r.world c (World.with_account p y);
+        slots = λ d i. ap (λ (m : FinMap nat_cmp World.Slot). slot_in (get m d)) v.clients ∙ slot_other r.world c d (World.with_account p y) i;
         here = v.here;
         else = v.else;
         there = v.there;
@@ -98,32 +72,31 @@ module _ (s : State) (r : Run) (c : ℕ) (p : World.Seat) (there : get r.world.c
       }
 
   abbrev spoken : Option ℕ → Account → List (List ClientMsg) → Run
-  spoken o y fs = with_step r (World.quiet (World.send_present (World.with_seat r.world c (World.with_account p y)) o fs))
+  spoken o y fs = with_step r (World.quiet (World.send_present (World.with_slot r.world c (World.with_account p y)) o fs))
 
   -- by what is done where a connection is present, and where none is
   keeps_spoken : (o : Option ℕ) (y : Account) (fs : List (List ClientMsg)) → p.present ≡ o → y.session ≡ (p.account).session
       → (IsUndisturbed r c → x.stage ≡ Idle → core y ≡ x)
-      → ((k : ℕ) → IsUndisturbed r c → Invariant.Client s (updates_of r.log) (Invariant.sessions r) r.given c (Some k) x (Invariant.issued_by r c) (Invariant.conn r.world k).down (Invariant.link r.world k)
-      → Invariant.Ups (Some k ≡ Some k) x.session (Invariant.tried x) (Invariant.issued_by r c) (last_of (Invariant.sessions r) (actor x)) (Invariant.link r.world k) (Invariant.conn r.world k).up
-      → Turned s (updates_of r.log) (Invariant.sessions r) r.given c k x (core y) (Invariant.issued_by r c) (Invariant.conn r.world k).down (Invariant.link r.world k)
-      (cond (is_some (Invariant.link r.world k)) ((Invariant.conn r.world k).up ++ map World.frame_up fs) (Invariant.conn r.world k).up))
+      → ((k : ℕ) → IsUndisturbed r c → Invariant.Client s (updates_of r.log) (Invariant.sessions r) r.given c (Some k) x (Invariant.issued_by r c) (Invariant.conn r.world k).outbound (Invariant.link r.world k)
+      → Invariant.Inbounds (Some k ≡ Some k) x.session (Invariant.tried x) (Invariant.issued_by r c) (last_of (Invariant.sessions r) (actor x)) (Invariant.link r.world k) (Invariant.conn r.world k).inbound
+      → Turned s (updates_of r.log) (Invariant.sessions r) r.given c k x (core y) (Invariant.issued_by r c) (Invariant.conn r.world k).outbound (Invariant.link r.world k)
+      (cond (is_some (Invariant.link r.world k)) ((Invariant.conn r.world k).inbound ++ map World.inbound_frame fs) (Invariant.conn r.world k).inbound))
       → Invariant.Inv s (spoken o y fs)
-  keeps_spoken None y fs e named idle on = keeps_call s r c (World.with_account p y) [] [] st (ap (λ (z : World.Seat). z.present) (sym is_seat))
-      (named ∙ ap (λ (z : Core). z.session) is_core)
+  keeps_spoken None y fs e named idle on = keeps_call s r c (World.with_account p y) [] [] st refl named
       (λ u. inl (idle u (off_line u), refl))
     where
       off_line : IsUndisturbed r c → x.stage ≡ Idle
-      off_line u = (subst (λ (q : Option ℕ). Invariant.Seated s (updates_of r.log) (Invariant.sessions r) r.given c q x.session (Invariant.place x (st.client c u).done (st.client c u).coming)
-          (Invariant.present_down r.world q) (Invariant.present_link r.world q)) (ap (λ (z : World.Seat). z.present) is_seat ∙ e) (st.client c u).seated).idle
-  keeps_spoken (Some k) y fs e named idle on = turns s r (spoken (Some k) y fs) c k (World.with_account p y) (Invariant.conn r.world k).down (map World.frame_up fs) st (turn_at k y fs e)
+      off_line u = (subst (λ (q : Option ℕ). Invariant.Standing s (updates_of r.log) (Invariant.sessions r) r.given c q x.session (Invariant.place x (st.client c u).done (st.client c u).coming)
+          (Invariant.present_outbound r.world q) (Invariant.present_link r.world q)) e (st.client c u).standing).idle
+  keeps_spoken (Some k) y fs e named idle on = turns s r (spoken (Some k) y fs) c k (World.with_account p y) (Invariant.conn r.world k).outbound (map World.inbound_frame fs) st (turn_at k y fs e)
       (λ u.
-      let before : IsUndisturbed r c = subst (λ (w : Option Resume). all_given c (actor_in w) r.given ≡ true) (named ∙ ap (λ (z : Core). z.session) is_core) u in
-      let here : (seat r.world c).present ≡ Some k = ap (λ (z : World.Seat). z.present) is_seat ∙ e in (
+      let before : IsUndisturbed r c = subst (λ (w : Option Resume). all_given c (actor_in w) r.given ≡ true) named u in
+      let here : (slot r.world c).present ≡ Some k = e in (
         before,
         on k before
-            (subst (λ (q : Option ℕ). Invariant.Client s (updates_of r.log) (Invariant.sessions r) r.given c q x (Invariant.issued_by r c) (Invariant.present_down r.world q) (Invariant.present_link r.world q)) here (st.client c before))
-            (subst (λ (q : Option ℕ). Invariant.Ups (q ≡ Some k) x.session (Invariant.tried x) (Invariant.issued_by r c) (last_of (Invariant.sessions r) (actor x)) (Invariant.link r.world k) (Invariant.conn r.world k).up) here
-            (st.ups c k (st.shape.present c k here).owner before)),
+            (subst (λ (q : Option ℕ). Invariant.Client s (updates_of r.log) (Invariant.sessions r) r.given c q x (Invariant.issued_by r c) (Invariant.present_outbound r.world q) (Invariant.present_link r.world q)) here (st.client c before))
+            (subst (λ (q : Option ℕ). Invariant.Inbounds (q ≡ Some k) x.session (Invariant.tried x) (Invariant.issued_by r c) (last_of (Invariant.sessions r) (actor x)) (Invariant.link r.world k) (Invariant.conn r.world k).inbound) here
+            (st.inbounds c k (st.shape.present c k here).owner before)),
       ))
 
   idle_same : (g : Stage) (y z : Core) → g ≡ Idle → y ≡ flush_to g z → y ≡ z
@@ -150,64 +123,64 @@ idle_to Synced x f = absurd (no f)
     no : Synced ≡ Idle → ⊥
     no i = cc
 
-module _ (s : State) (r : Run) (c : ℕ) (there : get r.world.clients c ≡ Some (seat r.world c)) (st : Invariant.Inv s r) where
+module _ (s : State) (r : Run) (c : ℕ) (st : Invariant.Inv s r) where
   abbrev a : Account
   a = account r.world c
 
   -- what goes up after a flush, by the stage
-  flush_turned : (k : ℕ) (g : Stage) → a.stage ≡ g → Invariant.Client s (updates_of r.log) (Invariant.sessions r) r.given c (Some k) (core a) (Invariant.issued_by r c) (Invariant.conn r.world k).down (Invariant.link r.world k)
-      → Invariant.Ups (Some k ≡ Some k) a.session (Invariant.tried (core a)) (Invariant.issued_by r c) (last_of (Invariant.sessions r) (actor (core a))) (Invariant.link r.world k) (Invariant.conn r.world k).up
-      → Turned s (updates_of r.log) (Invariant.sessions r) r.given c k (core a) (flush_to g (core a)) (Invariant.issued_by r c) (Invariant.conn r.world k).down (Invariant.link r.world k)
-      (cond (is_some (Invariant.link r.world k)) ((Invariant.conn r.world k).up ++ map World.frame_up (flush_says g a)) (Invariant.conn r.world k).up)
-  flush_turned k Idle e h u = turned_said s (updates_of r.log) (Invariant.sessions r) r.given c k (core a) (Invariant.issued_by r c) (Invariant.conn r.world k).down (Invariant.link r.world k) (Invariant.conn r.world k).up [] h u (inr refl)
-  flush_turned k Dialled e h u = turned_said s (updates_of r.log) (Invariant.sessions r) r.given c k (core a) (Invariant.issued_by r c) (Invariant.conn r.world k).down (Invariant.link r.world k) (Invariant.conn r.world k).up [] h u (inr refl)
-  flush_turned k Connected e h u = turned_said s (updates_of r.log) (Invariant.sessions r) r.given c k (core a) (Invariant.issued_by r c) (Invariant.conn r.world k).down (Invariant.link r.world k) (Invariant.conn r.world k).up
-      (map World.frame_up (said a)) h u (inl (subst IsOn (sym e) tt, send_said (actor (core a)) (Invariant.issued_by r c) (last_of (Invariant.sessions r) (actor (core a))) (Invariant.tried (core a)) a))
+  flush_turned : (k : ℕ) (g : Stage) → a.stage ≡ g → Invariant.Client s (updates_of r.log) (Invariant.sessions r) r.given c (Some k) (core a) (Invariant.issued_by r c) (Invariant.conn r.world k).outbound (Invariant.link r.world k)
+      → Invariant.Inbounds (Some k ≡ Some k) a.session (Invariant.tried (core a)) (Invariant.issued_by r c) (last_of (Invariant.sessions r) (actor (core a))) (Invariant.link r.world k) (Invariant.conn r.world k).inbound
+      → Turned s (updates_of r.log) (Invariant.sessions r) r.given c k (core a) (flush_to g (core a)) (Invariant.issued_by r c) (Invariant.conn r.world k).outbound (Invariant.link r.world k)
+      (cond (is_some (Invariant.link r.world k)) ((Invariant.conn r.world k).inbound ++ map World.inbound_frame (flush_says g a)) (Invariant.conn r.world k).inbound)
+  flush_turned k Idle e h u = turned_said s (updates_of r.log) (Invariant.sessions r) r.given c k (core a) (Invariant.issued_by r c) (Invariant.conn r.world k).outbound (Invariant.link r.world k) (Invariant.conn r.world k).inbound [] h u (inr refl)
+  flush_turned k Dialled e h u = turned_said s (updates_of r.log) (Invariant.sessions r) r.given c k (core a) (Invariant.issued_by r c) (Invariant.conn r.world k).outbound (Invariant.link r.world k) (Invariant.conn r.world k).inbound [] h u (inr refl)
+  flush_turned k Connected e h u = turned_said s (updates_of r.log) (Invariant.sessions r) r.given c k (core a) (Invariant.issued_by r c) (Invariant.conn r.world k).outbound (Invariant.link r.world k) (Invariant.conn r.world k).inbound
+      (map World.inbound_frame (said a)) h u (inl (subst IsOn (sym e) tt, send_said (actor (core a)) (Invariant.issued_by r c) (last_of (Invariant.sessions r) (actor (core a))) (Invariant.tried (core a)) a))
   flush_turned k Synced e h u =
       let last = last_of (Invariant.sessions r) (actor (core a)) in
-      turned_sent s (updates_of r.log) (Invariant.sessions r) r.given c k (core a) (Invariant.issued_by r c) (Invariant.conn r.world k).down (Invariant.link r.world k) (Invariant.conn r.world k).up
-      (map World.frame_up (flush_says Synced a)) h u e
-      (subst (λ (us : List Up). Sendable (actor (core a)) (Invariant.issued_by r c) last (Invariant.tried (core a)) us (Invariant.tried (sent_all (core a))))
-      (sym (map-append World.frame_up (said a) (map (frame_of (actor (core a))) a.fresh)))
-      (send_append (actor (core a)) (Invariant.issued_by r c) last (Invariant.tried (core a)) (Invariant.tried (core a)) (Invariant.tried (sent_all (core a))) (map World.frame_up (said a)) (map World.frame_up (map (frame_of (actor (core a))) a.fresh))
+      turned_sent s (updates_of r.log) (Invariant.sessions r) r.given c k (core a) (Invariant.issued_by r c) (Invariant.conn r.world k).outbound (Invariant.link r.world k) (Invariant.conn r.world k).inbound
+      (map World.inbound_frame (flush_says Synced a)) h u e
+      (subst (λ (us : List Inbound). Sendable (actor (core a)) (Invariant.issued_by r c) last (Invariant.tried (core a)) us (Invariant.tried (sent_all (core a))))
+      (sym (map-append World.inbound_frame (said a) (map (frame_of (actor (core a))) a.fresh)))
+      (send_append (actor (core a)) (Invariant.issued_by r c) last (Invariant.tried (core a)) (Invariant.tried (core a)) (Invariant.tried (sent_all (core a))) (map World.inbound_frame (said a)) (map World.inbound_frame (map (frame_of (actor (core a))) a.fresh))
       (send_said (actor (core a)) (Invariant.issued_by r c) last (Invariant.tried (core a)) a)
       (send_fresh s (updates_of r.log) last (core a) (Invariant.issued_by r c) h.done h.coming h.own)))
 
-  resend_turned : (k : ℕ) (g : Stage) → a.stage ≡ g → Invariant.Client s (updates_of r.log) (Invariant.sessions r) r.given c (Some k) (core a) (Invariant.issued_by r c) (Invariant.conn r.world k).down (Invariant.link r.world k)
-      → Invariant.Ups (Some k ≡ Some k) a.session (Invariant.tried (core a)) (Invariant.issued_by r c) (last_of (Invariant.sessions r) (actor (core a))) (Invariant.link r.world k) (Invariant.conn r.world k).up
-      → Turned s (updates_of r.log) (Invariant.sessions r) r.given c k (core a) (flush_to g (core a)) (Invariant.issued_by r c) (Invariant.conn r.world k).down (Invariant.link r.world k)
-      (cond (is_some (Invariant.link r.world k)) ((Invariant.conn r.world k).up ++ map World.frame_up (resend_says g a)) (Invariant.conn r.world k).up)
-  resend_turned k Idle e h u = turned_said s (updates_of r.log) (Invariant.sessions r) r.given c k (core a) (Invariant.issued_by r c) (Invariant.conn r.world k).down (Invariant.link r.world k) (Invariant.conn r.world k).up [] h u (inr refl)
-  resend_turned k Dialled e h u = turned_said s (updates_of r.log) (Invariant.sessions r) r.given c k (core a) (Invariant.issued_by r c) (Invariant.conn r.world k).down (Invariant.link r.world k) (Invariant.conn r.world k).up [] h u (inr refl)
-  resend_turned k Connected e h u = turned_said s (updates_of r.log) (Invariant.sessions r) r.given c k (core a) (Invariant.issued_by r c) (Invariant.conn r.world k).down (Invariant.link r.world k) (Invariant.conn r.world k).up [] h u (inr refl)
+  resend_turned : (k : ℕ) (g : Stage) → a.stage ≡ g → Invariant.Client s (updates_of r.log) (Invariant.sessions r) r.given c (Some k) (core a) (Invariant.issued_by r c) (Invariant.conn r.world k).outbound (Invariant.link r.world k)
+      → Invariant.Inbounds (Some k ≡ Some k) a.session (Invariant.tried (core a)) (Invariant.issued_by r c) (last_of (Invariant.sessions r) (actor (core a))) (Invariant.link r.world k) (Invariant.conn r.world k).inbound
+      → Turned s (updates_of r.log) (Invariant.sessions r) r.given c k (core a) (flush_to g (core a)) (Invariant.issued_by r c) (Invariant.conn r.world k).outbound (Invariant.link r.world k)
+      (cond (is_some (Invariant.link r.world k)) ((Invariant.conn r.world k).inbound ++ map World.inbound_frame (resend_says g a)) (Invariant.conn r.world k).inbound)
+  resend_turned k Idle e h u = turned_said s (updates_of r.log) (Invariant.sessions r) r.given c k (core a) (Invariant.issued_by r c) (Invariant.conn r.world k).outbound (Invariant.link r.world k) (Invariant.conn r.world k).inbound [] h u (inr refl)
+  resend_turned k Dialled e h u = turned_said s (updates_of r.log) (Invariant.sessions r) r.given c k (core a) (Invariant.issued_by r c) (Invariant.conn r.world k).outbound (Invariant.link r.world k) (Invariant.conn r.world k).inbound [] h u (inr refl)
+  resend_turned k Connected e h u = turned_said s (updates_of r.log) (Invariant.sessions r) r.given c k (core a) (Invariant.issued_by r c) (Invariant.conn r.world k).outbound (Invariant.link r.world k) (Invariant.conn r.world k).inbound [] h u (inr refl)
   resend_turned k Synced e h u =
-      turned_sent s (updates_of r.log) (Invariant.sessions r) r.given c k (core a) (Invariant.issued_by r c) (Invariant.conn r.world k).down (Invariant.link r.world k) (Invariant.conn r.world k).up
-      (map World.frame_up (resend_says Synced a)) h u e
+      turned_sent s (updates_of r.log) (Invariant.sessions r) r.given c k (core a) (Invariant.issued_by r c) (Invariant.conn r.world k).outbound (Invariant.link r.world k) (Invariant.conn r.world k).inbound
+      (map World.inbound_frame (resend_says Synced a)) h u e
       (send_issued s (updates_of r.log) (last_of (Invariant.sessions r) (actor (core a))) (core a) (Invariant.issued_by r c) h.done h.coming h.own)
 
-  pub keeps_flush : Invariant.Inv s (with_step r (World.speaks r.world c (seat r.world c) (calls.flushed a) (calls.flush_frames a)))
-  keeps_flush = keeps_spoken s r c (seat r.world c) there st (seat r.world c).present (calls.flushed a) (calls.flush_frames a) refl
+  pub keeps_flush : Invariant.Inv s (with_step r (World.speaks r.world c (slot r.world c) (calls.flushed a) (calls.flush_frames a)))
+  keeps_flush = keeps_spoken s r c st (slot r.world c).present (calls.flushed a) (calls.flush_frames a) refl
       (ap (λ (z : Core). z.session) (flush_core a a.stage refl) ∙ flush_session a.stage (core a))
       (λ u e. flush_core a a.stage refl ∙ idle_to a.stage (core a) e)
       (λ k u h v. rw (flush_core a a.stage refl, flush_said a a.stage refl) (flush_turned k a.stage refl h v))
 
-  pub keeps_resend : Invariant.Inv s (with_step r (World.speaks r.world c (seat r.world c) (calls.resent a) (calls.resend_frames a)))
-  keeps_resend = keeps_spoken s r c (seat r.world c) there st (seat r.world c).present (calls.resent a) (calls.resend_frames a) refl
+  pub keeps_resend : Invariant.Inv s (with_step r (World.speaks r.world c (slot r.world c) (calls.resent a) (calls.resend_frames a)))
+  keeps_resend = keeps_spoken s r c st (slot r.world c).present (calls.resent a) (calls.resend_frames a) refl
       (ap (λ (z : Core). z.session) (resent_core a a.stage refl) ∙ flush_session a.stage (core a))
       (λ u e. resent_core a a.stage refl ∙ idle_to a.stage (core a) e)
       (λ k u h v. rw (resent_core a a.stage refl, resend_said a a.stage refl) (resend_turned k a.stage refl h v))
 
   -- a cut, of a world whose queues differ at most in what waits down on the present connection
-  pub cut_off_at : (qs : FinMap nat_cmp World.Conn) (o : Option ℕ) (ls : List (List ℕ)) → (seat r.world c).present ≡ o
+  pub cut_off_at : (qs : FinMap nat_cmp World.Conn) (o : Option ℕ) (ls : List (List ℕ)) → (slot r.world c).present ≡ o
       → ((j : ℕ) → (o ≡ Some j → ⊥) → Invariant.conn_in (get qs j) ≡ Invariant.conn r.world j)
       → ((j : ℕ) → o ≡ Some j → cut (Invariant.conn_in (get qs j)) ≡ cut (Invariant.conn r.world j))
       → ((j : ℕ) → is_some (get r.world.conns j) ≡ true → is_some (get qs j) ≡ true)
-      → (n : List Notices.Notice) → CutOff r (with_step r (World.saying (World.with_seat (World.cut_present (record (r.world) { conns = qs }) o) c (record { account = calls.lost a; present = None; noticed = n })) ls)) c (record { account = calls.lost a; present = None; noticed = n })
+      → (n : List Notices.Notice) → CutOff r (with_step r (World.saying (World.with_slot (World.cut_present (record (r.world) { conns = qs }) o) c (record { account = calls.lost a; present = None; noticed = n })) ls)) c (record { account = calls.lost a; present = None; noticed = n })
   cut_off_at qs None ls e f g h n = record {
     host = refl;
     opened = refl;
-    seat_is = seat_same r.world c (record { account = calls.lost a; present = None; noticed = n });
-    seats = λ d i. seat_other r.world c d (record { account = calls.lost a; present = None; noticed = n }) i;
+    slot_is = slot_same r.world c (record { account = calls.lost a; present = None; noticed = n });
+    slots = λ d i. slot_other r.world c d (record { account = calls.lost a; present = None; noticed = n }) i;
     none = refl;
     lost = refl;
     here = λ k i. absurd (none_some k (sym e ∙ i));
@@ -220,8 +193,8 @@ module _ (s : State) (r : Run) (c : ℕ) (there : get r.world.clients c ≡ Some
   cut_off_at qs (Some k) ls e f g h n = record {
     host = refl;
     opened = refl;
-    seat_is = seat_same r.world c (record { account = calls.lost a; present = None; noticed = n });
-    seats = λ d i. seat_other r.world c d (record { account = calls.lost a; present = None; noticed = n }) i;
+    slot_is = slot_same r.world c (record { account = calls.lost a; present = None; noticed = n });
+    slots = λ d i. slot_other r.world c d (record { account = calls.lost a; present = None; noticed = n }) i;
     none = refl;
     lost = refl;
     here = λ j i.
@@ -236,12 +209,12 @@ module _ (s : State) (r : Run) (c : ℕ) (there : get r.world.clients c ≡ Some
     batches = λ d. ap (λ xs. Run.issued_of d xs) (append-nil r.issued);
   }
 
-  pub keeps_cut_line : Invariant.Inv s (with_step r (World.quiet (World.cut_seat r.world c (seat r.world c))))
-  keeps_cut_line = keeps_cut s r _ c _ st (cut_off_at r.world.conns (seat r.world c).present [] refl (λ j e. refl) (λ j e. refl) (λ j e. e) (seat r.world c).noticed)
+  pub keeps_cut_line : Invariant.Inv s (with_step r (World.quiet (World.cut_slot r.world c (slot r.world c))))
+  keeps_cut_line = keeps_cut s r _ c _ st (cut_off_at r.world.conns (slot r.world c).present [] refl (λ j e. refl) (λ j e. refl) (λ j e. e) (slot r.world c).noticed)
 
   -- a dial
-  abbrev dialled_seat : World.Seat
-  dialled_seat = record { account = calls.dialled a; present = Some (r.world.opened + 1); noticed = (seat r.world c).noticed }
+  abbrev dialled_slot : World.Slot
+  dialled_slot = record { account = calls.dialled a; present = Some (r.world.opened + 1); noticed = (slot r.world c).noticed }
 
   abbrev cut_conns : Option ℕ → FinMap nat_cmp World.Conn
   cut_conns None = r.world.conns
@@ -264,27 +237,27 @@ module _ (s : State) (r : Run) (c : ℕ) (there : get r.world.clients c ≡ Some
   cut_conns_here (Some k) j e = subst (λ n. Invariant.conn_in (get (World.cut_conn r.world.conns k (get r.world.conns k)) n) ≡ cut (Invariant.conn r.world n)) (some_is k j e) (cut_here r.world.conns k)
 
   abbrev dialling : FinMap nat_cmp World.Conn → World.World
-  dialling qs = World.with_seat (World.open_conn (record (r.world) { conns = qs }) (Some c)) c dialled_seat
+  dialling qs = World.with_slot (World.open_conn (record (r.world) { conns = qs }) (Some c)) c dialled_slot
 
-  dialed_at : (qs : FinMap nat_cmp World.Conn) → ((j : ℕ) → ((seat r.world c).present ≡ Some j → ⊥) → Invariant.conn_in (get qs j) ≡ Invariant.conn r.world j)
-      → ((j : ℕ) → (seat r.world c).present ≡ Some j → Invariant.conn_in (get qs j) ≡ cut (Invariant.conn r.world j))
+  dialed_at : (qs : FinMap nat_cmp World.Conn) → ((j : ℕ) → ((slot r.world c).present ≡ Some j → ⊥) → Invariant.conn_in (get qs j) ≡ Invariant.conn r.world j)
+      → ((j : ℕ) → (slot r.world c).present ≡ Some j → Invariant.conn_in (get qs j) ≡ cut (Invariant.conn r.world j))
       → ((j : ℕ) → is_some (get r.world.conns j) ≡ true → is_some (get qs j) ≡ true)
-      → Dialed r (with_step r (World.quiet (World.send_up (dialling qs) (r.world.opened + 1) (World.frame_up (calls.hello_of (calls.dialled a)) ∷ [])))) c dialled_seat
+      → Dialed r (with_step r (World.quiet (World.send_inbound (dialling qs) (r.world.opened + 1) (World.inbound_frame (calls.hello_of (calls.dialled a)) ∷ [])))) c dialled_slot
   dialed_at qs f g h =
       let k = r.world.opened + 1 in
-      let us : List Up = World.frame_up (calls.hello_of (calls.dialled a)) ∷ [] in
+      let us : List Inbound = World.inbound_frame (calls.hello_of (calls.dialled a)) ∷ [] in
       let made : Invariant.conn (dialling qs) k ≡ World.new_conn (Some c) = conn_same qs k (World.new_conn (Some c)) in
       let made_there : is_some (get (dialling qs).conns k) ≡ true = ap is_some (get_same qs k (World.new_conn (Some c))) in
-      let v = sent_up (dialling qs) k us (λ m i. made_there) in
+      let v = sent_inbound (dialling qs) k us (λ m i. made_there) in
       let o = opened_at_host r.world.host k (omega arith) (st.shape.unlinked k (omega arith)) in
       record {
         host = rw v.host o;
         opened = v.opened;
-        seat_is = ap (λ (m : FinMap nat_cmp World.Seat). seat_in (get m c)) v.clients ∙ seat_same r.world c dialled_seat;
-        seats = λ d i. ap (λ (m : FinMap nat_cmp World.Seat). seat_in (get m d)) v.clients ∙ seat_other r.world c d dialled_seat i;
+        slot_is = ap (λ (m : FinMap nat_cmp World.Slot). slot_in (get m c)) v.clients ∙ slot_same r.world c dialled_slot;
+        slots = λ d i. ap (λ (m : FinMap nat_cmp World.Slot). slot_in (get m d)) v.clients ∙ slot_other r.world c d dialled_slot i;
         present = refl;
         dialled = refl;
-        ups = cond (World.is_attached (dialling qs) k) us [];
+        inbounds = cond (World.is_attached (dialling qs) k) us [];
         new = v.here ∙ ap (λ (q : World.Conn). sent_on q (World.is_attached (dialling qs) k) us) made;
         hello = λ e. rw v.host (rw e refl);
         here = λ j i. v.else j (λ d. absent j d i) ∙ conn_other qs k (World.new_conn (Some c)) j (λ d. absent j d i) ∙ g j i;
@@ -296,9 +269,9 @@ module _ (s : State) (r : Run) (c : ℕ) (there : get r.world.clients c ≡ Some
         batches = λ d. ap (λ xs. Run.issued_of d xs) (append-nil r.issued);
       }
     where
-      absent : (j : ℕ) → j ≡ r.world.opened + 1 → (seat r.world c).present ≡ Some j → ⊥
+      absent : (j : ℕ) → j ≡ r.world.opened + 1 → (slot r.world c).present ≡ Some j → ⊥
       absent j d i = none_some c (sym (ap (λ (q : World.Conn). q.owner) (st.shape.unopened j (omega arith))) ∙ (st.shape.present c j i).owner)
 
-  pub keeps_dial_line : Invariant.Inv s (with_step r (World.quiet (World.dial_seat r.world c (seat r.world c))))
-  keeps_dial_line = rw (cut_present_is (seat r.world c).present)
-      (keeps_dialed s r _ c dialled_seat st (dialed_at (cut_conns (seat r.world c).present) (λ j e. cut_conns_else (seat r.world c).present j e) (λ j e. cut_conns_here (seat r.world c).present j e) (λ j e. cut_conns_there (seat r.world c).present j e)))
+  pub keeps_dial_line : Invariant.Inv s (with_step r (World.quiet (World.dial_slot r.world c (slot r.world c))))
+  keeps_dial_line = rw (cut_present_is (slot r.world c).present)
+      (keeps_dialed s r _ c dialled_slot st (dialed_at (cut_conns (slot r.world c).present) (λ j e. cut_conns_else (slot r.world c).present j e) (λ j e. cut_conns_here (slot r.world c).present j e) (λ j e. cut_conns_there (slot r.world c).present j e)))

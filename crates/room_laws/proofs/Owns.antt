@@ -49,7 +49,7 @@ nothing_done s done g n (Some t) k = let e : false ≡ true = k.known in cc
 
 module _ (s : State) (us : List Update) (last : ℕ) (x : Core) (all : List Batch) (done coming : List Update) where
   pub told_is : Own s us last x all done coming → Left 0 x.told all (issued x)
-  told_is h = left (actor x) s.tree 0 done all (issued x) x.told h.ledger.chain h.ledger.took
+  told_is h = left (actor x) s.tree 0 done all (issued x) x.told h.ledger.chain h.ledger.received
 
   pub rest_is : (h : Own s us last x all done coming) → Left x.told last (issued x) h.ledger.rest
   rest_is h = left (actor x) (tree_after s.tree done) x.told coming (issued x) h.ledger.rest last (told_is h).chain h.ledger.takes
@@ -70,7 +70,7 @@ module _ (s : State) (us : List Update) (last : ℕ) (x : Core) (all : List Batc
           all_is = ap (λ ds. ds ++ b ∷ []) h.ledger.all_is ∙ append_assoc h.ledger.accepted h.ledger.rest (b ∷ []);
           last_is = h.ledger.last_is;
           chain = Runs-append 0 all (b ∷ []) h.ledger.chain (record { first = first ∙ ap (λ c. c + 1) end; some = some; more = record {} });
-          took = rw more (Matches-issue (actor x) s.tree 0 done all (issued x) (b ∷ []) x.told h.ledger.took);
+          received = rw more (Matches-issue (actor x) s.tree 0 done all (issued x) (b ∷ []) x.told h.ledger.received);
           takes = rw more (Matches-issue (actor x) (tree_after s.tree done) x.told coming (issued x) h.ledger.rest (b ∷ []) last h.ledger.takes);
         };
         unsent = h.unsent;
@@ -108,7 +108,7 @@ module _ (s : State) (us : List Update) (last : ℕ) (x : Core) (all : List Batc
       all_is = h.ledger.all_is;
       last_is = h.ledger.last_is;
       chain = h.ledger.chain;
-      took = h.ledger.took;
+      received = h.ledger.received;
       takes = Matches-append (actor x) (tree_after s.tree done) x.told coming (u ∷ []) (issued x) h.ledger.rest h.ledger.rest last last h.ledger.takes
           (inr (record { other = apart; more = record { same = refl; clock = refl } }));
     };
@@ -131,7 +131,7 @@ module _ (s : State) (us : List Update) (last : ℕ) (x : Core) (all : List Batc
           all_is = h.ledger.all_is ∙ ap (λ bs. h.ledger.accepted ++ bs) next ∙ sym (append_assoc h.ledger.accepted (b ∷ []) more);
           last_is = upto-append 0 h.ledger.accepted (b ∷ []) ∙ ap (λ i. i + length b.bodies) h.ledger.last_is;
           chain = h.ledger.chain;
-          took = h.ledger.took;
+          received = h.ledger.received;
           takes = Matches-append (actor x) (tree_after s.tree done) x.told coming (u ∷ []) (issued x) h.ledger.rest more last (last + length b.bodies) h.ledger.takes
               (inl (record { own = own; batch = b; others = more; front = next; first = first; bodies = rw (← tree) bodies; more = record { same = refl; clock = ap (λ i. last + i) n } }));
         };
@@ -153,7 +153,7 @@ module _ (s : State) (us : List Update) (last : ℕ) (x : Core) (all : List Batc
   own_named w z quiet h =
       let shown : Shows s done x.stage x.n None x.confirmed = rw z at h.shows in
       let n = nothing_done s done x.stage x.n x.confirmed shown in
-      let took : Matches (actor x) s.tree 0 [] all (issued x) x.told = subst (λ (vs : List Update). Matches (actor x) s.tree 0 vs all (issued x) x.told) n.0 h.ledger.took in
+      let received : Matches (actor x) s.tree 0 [] all (issued x) x.told = subst (λ (vs : List Update). Matches (actor x) s.tree 0 vs all (issued x) x.told) n.0 h.ledger.received in
       record {
         room = h.room;
         whole = refl;
@@ -164,8 +164,8 @@ module _ (s : State) (us : List Update) (last : ℕ) (x : Core) (all : List Batc
           all_is = refl;
           last_is = refl;
           chain = h.ledger.chain;
-          took = took;
-          takes = rw (← took.clock, ← took.same) (silent_matches w.actor s.tree us all 0 quiet);
+          received = received;
+          takes = rw (← received.clock, ← received.same) (silent_matches w.actor s.tree us all 0 quiet);
         };
         unsent = inr refl;
       }

@@ -1,4 +1,4 @@
--- What is left of a queue up, once its first frame is taken.
+-- What is left of a inbound queue, once its first frame is taken.
 use Rattle.std.proofs.Common.{◌≡◌, ℕ, ◌+◌, ◌<◌, ◌≤◌, ◌⊎◌, inl, inr, max, List, [], ◌∷◌, ◌++◌, length, refl, ap, ◌∙◌, subst, arith}
 use Rattle.std.specs.Prelude.{Ok}
 use Rattle.room_nodes.specs.declared.nodes.Op.{Op}
@@ -10,7 +10,7 @@ use Rattle.room_nodes.specs.Steps.{settle_all}
 use Rattle.room_log.specs.Log.{State, ops_from, last_of}
 use Rattle.room_log.specs.Take.{Nothing, Takes, take}
 use Rattle.room_model.specs.Account.{Batch, last_clock}
-use Rattle.room_model.specs.Server.{Up}
+use Rattle.room_model.specs.Server.{Inbound}
 use Rattle.room_model.specs.Sound.{RunsOn}
 use Rattle.room_laws.specs.Ledger.{In, upto}
 use Rattle.room_laws.specs.Queues.{InOrder}
@@ -26,7 +26,7 @@ IsTalk client.Fetch = Unit {0}
 IsTalk (client.Update os) = ⊥
 
 -- Operations that come first are a batch that the log has, or the next one: the server takes it whole. `accepted` is what it took so far.
-pub record Batched (s : State) (a : ℕ) (accepted rest : List Batch) (all : List Batch) (c : ℕ) (os : List Op) (q : List Up) (e : ℕ) : Type 0 where
+pub record Batched (s : State) (a : ℕ) (accepted rest : List Batch) (all : List Batch) (c : ℕ) (os : List Op) (q : List Inbound) (e : ℕ) : Type 0 where
   pub outcome : ((take s a os ≡ Nothing) × InOrder a a all c q e)
       ⊎ record {
         batch : Batch;
@@ -52,7 +52,7 @@ takes_batch s a b [] p e f = absurd (omega arith)
 takes_batch s a b (x ∷ xs) p e f = rw e (take_new s a b.first x xs f)
 
 -- the frame of operations that comes first, at the last clock c that the log has of the actor
-pub batched : (s : State) (a : ℕ) (accepted rest all : List Batch) (c : ℕ) (os : List Op) (q : List Up) (e : ℕ) → all ≡ accepted ++ rest → RunsOn 0 all → upto 0 accepted ≡ c → last_of s.sessions a ≡ c
+pub batched : (s : State) (a : ℕ) (accepted rest all : List Batch) (c : ℕ) (os : List Op) (q : List Inbound) (e : ℕ) → all ≡ accepted ++ rest → RunsOn 0 all → upto 0 accepted ≡ c → last_of s.sessions a ≡ c
     → InOrder a a all c (Ok (frame.Msgs (client.Update os ∷ [])) ∷ q) e → Batched s a accepted rest all c os q e
 batched s a accepted rest all c os q e whole chain clock last h = by_case (old_or_next 0 accepted rest h.batch (subst (RunsOn 0) whole chain) (subst (λ bs. In h.batch bs) whole h.issued) (omega (arith, h.begins, clock)))
   where

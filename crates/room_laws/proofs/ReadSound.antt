@@ -5,9 +5,9 @@ use Rattle.room_msg.specs.Sound.{IsSoundClientMsg, IsShallowClientMsg}
 use Rattle.room_msg.specs.declared.messages.ClientMsg.{ClientMsg}
 use Rattle.room_msg.specs.declared.messages.ClientMsg.TheVariants as client
 use Rattle.room_msg.specs.declared.messages.ClientFrame.TheVariants.{Ping, Msgs}
-use Rattle.room_model.specs.Server.{Up}
+use Rattle.room_model.specs.Server.{Inbound}
 use Rattle.room_model.specs.Sound.{IsReadSound}
-use Rattle.room_laws.specs.Validity.{IsSoundUp, IsValidClientMsg, AreValidClientMsgs}
+use Rattle.room_laws.specs.Validity.{IsSoundInbound, IsValidClientMsg, AreValidClientMsgs}
 
 message : (m : ClientMsg) → IsSoundClientMsg m → IsShallowClientMsg m → IsValidClientMsg m
 message (client.Hello h) s d = s.content
@@ -23,7 +23,7 @@ messages (m ∷ ms) s d = (
   messages ms (All-tail IsSoundClientMsg m ms s) (All-tail IsShallowClientMsg m ms d),
 )
 
-pub read_sound : (u : Up) → IsReadSound u → IsSoundUp u
+pub read_sound : (u : Inbound) → IsReadSound u → IsSoundInbound u
 read_sound (Err reason) h = tt
 read_sound (Ok Ping) h = tt
 read_sound (Ok (Msgs ms)) h = messages ms h.0 h.1

@@ -10,14 +10,14 @@ use Rattle.room_msg.specs.declared.messages.Resume.{Resume}
 use Rattle.room_msg.specs.declared.messages.ServerMsg.TheVariants as server
 use Rattle.room_log.specs.Log.{State, Session, session_of, last_of, updates_of}
 use Rattle.room_model.specs.Server
-use Rattle.room_model.specs.Server.{Down, Message, Closed, Link, Up, Served, has_session, holds, is_actor, not_held_by, without_actor}
-use Rattle.room_model.specs.World.{Conn, Host, Running, Fuse, state_in, links_of, deliver}
-use Rattle.room_model.specs.Run.{Run, seat, IsUndisturbed}
+use Rattle.room_model.specs.Server.{Outbound, Message, Closed, Link, Inbound, Served, has_session, holds, is_actor, not_held_by, without_actor}
+use Rattle.room_model.specs.World.{Conn, Host, Running, Fuse, state_in, links_of, deliver, slot}
+use Rattle.room_model.specs.Run.{Run, IsUndisturbed}
 use Rattle.room_laws.specs.Invariant
 use Rattle.room_laws.proofs.Maps.{mine, mine-append, passes, to_each_of, to_others_same, to_others_other, deliver_there, get_same, get_other}
 use Rattle.room_laws.proofs.Sessions.{begun_since}
-use Rattle.room_laws.proofs.Calm.{ups_after}
-use Rattle.room_laws.proofs.Leaving.{delivered, ups_passed}
+use Rattle.room_laws.proofs.Calm.{inbounds_after}
+use Rattle.room_laws.proofs.Leaving.{delivered, inbounds_passed}
 use Rattle.room_laws.proofs.Welcomes.{keeps_welcome}
 
 equal_keys : (q x : ℕ) → nat_cmp q x ≡ Equal → q ≡ x
@@ -43,30 +43,30 @@ session_within ss zero x e = absurd (none_some e)
     none_some d = cc
 session_within ss (suc i) x e = let l = slice_get_within ss i x e in (omega arith, omega arith)
 
-module _ (s : State) (r : Run) (v : Server.Server) (k : ℕ) (l : Link) (w : Resume) (x : Session) (qs : FinMap nat_cmp Conn) (ups : ℕ → List Up) (fuse : Option Fuse) (st : Invariant.Inv s r)
+module _ (s : State) (r : Run) (v : Server.Server) (k : ℕ) (l : Link) (w : Resume) (x : Session) (qs : FinMap nat_cmp Conn) (inbounds : ℕ → List Inbound) (fuse : Option Fuse) (st : Invariant.Inv s r)
     (runs : r.world.host ≡ Running v) (attached : get v.links k ≡ Some l) (bare : l.actor ≡ None) (known : session_of v.state.sessions w.actor ≡ Some x)
-    (conns : (j : ℕ) → Invariant.conn_in (get qs j) ≡ record (Invariant.conn r.world j) { up = ups j })
+    (conns : (j : ℕ) → Invariant.conn_in (get qs j) ≡ record (Invariant.conn r.world j) { inbound = inbounds j })
     (there : (j : ℕ) → is_some (get r.world.conns j) ≡ true → is_some (get qs j) ≡ true)
-    (else : (j : ℕ) → (j ≡ k → ⊥) → ups j ≡ (Invariant.conn r.world j).up)
-    (unopened : (j : ℕ) → r.world.opened < j → ups j ≡ [])
+    (else : (j : ℕ) → (j ≡ k → ⊥) → inbounds j ≡ (Invariant.conn r.world j).inbound)
+    (unopened : (j : ℕ) → r.world.opened < j → inbounds j ≡ [])
     -- an undisturbed client's hello was the only frame, and is of its session where it is present
-    (popped : (d : ℕ) → (Invariant.conn r.world k).owner ≡ Some d → IsUndisturbed r d → (ups k ≡ []) × (((seat r.world d).present ≡ Some k) → (Invariant.core_of r.world d).session ≡ Some w)) where
+    (popped : (d : ℕ) → (Invariant.conn r.world k).owner ≡ Some d → IsUndisturbed r d → (inbounds k ≡ []) × (((slot r.world d).present ≡ Some k) → (Invariant.core_of r.world d).session ≡ Some w)) where
   abbrev now : Link
   now = Server.with_session l w.actor None
 
   abbrev links : FinMap nat_cmp Link
   links = insert (without_actor v.links w.actor) k (Server.with_session l w.actor None)
 
-  abbrev before : List (ℕ × Down)
+  abbrev before : List (ℕ × Outbound)
   before = Server.to_each (holds w.actor) Server.elsewhere (entries v.links)
 
   abbrev users : List (ℕ × List ℕ)
   users = Server.users_of v.state.sessions (remove links k)
 
-  abbrev after : List (ℕ × Down)
+  abbrev after : List (ℕ × Outbound)
   after = (k, Message (server.RoomState w.actor w.key (Server.users_of v.state.sessions (remove links k)))) ∷ Server.to_others links k (server.Joined w.actor)
 
-  abbrev outs : List (ℕ × Down)
+  abbrev outs : List (ℕ × Outbound)
   outs = before ++ after
 
   abbrev t : Run
@@ -92,12 +92,12 @@ module _ (s : State) (r : Run) (v : Server.Server) (k : ℕ) (l : Link) (w : Res
       ∙ ap (λ ms. passes (holds w.actor) Server.elsewhere (get v.links j) ++ ms) (rw (ne_eqb k j (λ d. e (sym d))) (to_others_other (server.Joined w.actor) k j links e
       ∙ ap (passes has_session (Message (server.Joined w.actor))) (get_other (without_actor v.links w.actor) k now j e)))
 
-  ups_here : ups_after (ups k) (mine k outs) ≡ ups k
-  ups_here = ap (λ ms. ups_after (ups k) ms) sends_here
+  inbounds_here : inbounds_after (inbounds k) (mine k outs) ≡ inbounds k
+  inbounds_here = ap (λ ms. inbounds_after (inbounds k) ms) sends_here
 
   abbrev Goes : ℕ → Type 0
-  Goes j = ((Invariant.link t.world j ≡ Invariant.link r.world j) × (mine j outs ≡ passes has_session (Message (server.Joined w.actor)) (Invariant.link r.world j)) × (ups_after (ups j) (mine j outs) ≡ (Invariant.conn r.world j).up))
-      ⊎ ((Invariant.link t.world j ≡ None) × (ups_after (ups j) (mine j outs) ≡ []) × ((code : ℕ) × ((text : List ℕ) × (mine j outs ≡ Closed code text ∷ []))))
+  Goes j = ((Invariant.link t.world j ≡ Invariant.link r.world j) × (mine j outs ≡ passes has_session (Message (server.Joined w.actor)) (Invariant.link r.world j)) × (inbounds_after (inbounds j) (mine j outs) ≡ (Invariant.conn r.world j).inbound))
+      ⊎ ((Invariant.link t.world j ≡ None) × (inbounds_after (inbounds j) (mine j outs) ≡ []) × ((code : ℕ) × ((text : List ℕ) × (mine j outs ≡ Closed code text ∷ []))))
 
   link_now : (j : ℕ) → (j ≡ k → ⊥) → Invariant.link t.world j ≡ cond (not_held_by w.actor (get v.links j)) (get v.links j) None
   link_now j e = get_other (without_actor v.links w.actor) k now j e ∙ without_at v.links w.actor j
@@ -113,7 +113,7 @@ module _ (s : State) (r : Run) (v : Server.Server) (k : ℕ) (l : Link) (w : Res
           inl (
             get_other (without_actor v.links w.actor) k now j e ∙ kept ∙ sym (link_is j),
             sent,
-            ap (λ ms. ups_after (ups j) ms) sent ∙ ups_passed (ups j) has_session (server.Joined w.actor) (Invariant.link r.world j) ∙ else j e,
+            ap (λ ms. inbounds_after (inbounds j) ms) sent ∙ inbounds_passed (inbounds j) has_session (server.Joined w.actor) (Invariant.link r.world j) ∙ else j e,
           )
 
       closes : (not_held_by w.actor (get v.links j) ≡ false) × (passes (holds w.actor) Server.elsewhere (get v.links j) ≡ Server.elsewhere ∷ []) × (is_some (get v.links j) ≡ true) → Goes j
@@ -121,11 +121,11 @@ module _ (s : State) (r : Run) (v : Server.Server) (k : ℕ) (l : Link) (w : Res
           let gone : get (without_actor v.links w.actor) j ≡ None = without_at v.links w.actor j ∙ ap (λ b. cond b (get v.links j) None) f.0 in
           let sent : mine j outs ≡ Server.elsewhere ∷ [] =
           sends_else j e ∙ ap (λ ms. ms ++ passes has_session (Message (server.Joined w.actor)) (get (without_actor v.links w.actor) j)) f.1 ∙ ap (λ o. Server.elsewhere ∷ passes has_session (Message (server.Joined w.actor)) o) gone in
-          inr (get_other (without_actor v.links w.actor) k now j e ∙ gone, ap (λ ms. ups_after (ups j) ms) sent, (4408, (codes "resumed elsewhere", sent)))
+          inr (get_other (without_actor v.links w.actor) k now j e ∙ gone, ap (λ ms. inbounds_after (inbounds j) ms) sent, (4408, (codes "resumed elsewhere", sent)))
 
-  unopened_at : (j : ℕ) → (j ≡ k) ⊎ (j ≡ k → ⊥) → r.world.opened < j → ups_after (ups j) (mine j outs) ≡ []
-  unopened_at j (inl e) i = subst (λ n. ups_after (ups n) (mine n outs) ≡ []) (sym e) (ups_here ∙ unopened k (subst (λ n. r.world.opened < n) e i))
-  unopened_at j (inr e) i = ⊎_elim (λ f. f.2 ∙ ap (λ (p : Conn). p.up) (st.shape.unopened j i)) (λ f. f.1) (goes j e)
+  unopened_at : (j : ℕ) → (j ≡ k) ⊎ (j ≡ k → ⊥) → r.world.opened < j → inbounds_after (inbounds j) (mine j outs) ≡ []
+  unopened_at j (inl e) i = subst (λ n. inbounds_after (inbounds n) (mine n outs) ≡ []) (sym e) (inbounds_here ∙ unopened k (subst (λ n. r.world.opened < n) e i))
+  unopened_at j (inr e) i = ⊎_elim (λ f. f.2 ∙ ap (λ (p : Conn). p.inbound) (st.shape.unopened j i)) (λ f. f.1) (goes j e)
 
   some_is : {A : Type 0} (y z : A) → Some y ≡ Some z → y ≡ z
   some_is y z e = cc
@@ -148,15 +148,15 @@ module _ (s : State) (r : Run) (v : Server.Server) (k : ℕ) (l : Link) (w : Res
   state_is : state_in r.world.host ≡ v.state
   state_is = ap state_in runs
 
-  since : (d : ℕ) → (Invariant.conn r.world k).owner ≡ Some d → IsUndisturbed r d → (seat r.world d).present ≡ Some k → last_of s.sessions w.actor ≡ 0
+  since : (d : ℕ) → (Invariant.conn r.world k).owner ≡ Some d → IsUndisturbed r d → (slot r.world d).present ≡ Some k → last_of s.sessions w.actor ≡ 0
   since d o u e = begun_since s (Invariant.sessions r) (Some w) (subst (λ (z : Option Resume). Invariant.StandsIn s (Invariant.sessions r) z) ((popped d o u).1 e) (st.client d u).stands)
 
   pub keeps_resume : Invariant.Inv s t
-  keeps_resume = keeps_welcome s r t k l now w users (λ j. mine j outs) (λ j. ups_after (ups j) (mine j outs)) st
+  keeps_resume = keeps_welcome s r t k l now w users (λ j. mine j outs) (λ j. inbounds_after (inbounds j) (mine j outs)) st
       (λ d. refl) (λ d. refl) refl refl refl
       (hosts_after (subst Invariant.Hosts runs st.shape.hosts))
       (subst (λ (z : State). Invariant.Logged s (updates_of r.log) z) state_is st.logged)
-      (λ j. delivered r qs ups outs j (conns j))
+      (λ j. delivered r qs inbounds outs j (conns j))
       (λ j e. deliver_there qs outs j (there j e))
       (λ j e. unopened_at j (cases_eq j k) e)
       (link_is k ∙ attached) bare (get_same (without_actor v.links w.actor) k now) refl refl (session_within v.state.sessions w.actor x known).0 (session_within v.state.sessions w.actor x known).1
@@ -165,4 +165,4 @@ module _ (s : State) (r : Run) (v : Server.Server) (k : ℕ) (l : Link) (w : Res
       (λ b h. subst (λ (z : State). Invariant.Stands s z.sessions b) state_is h)
       sends_here
       goes
-      (λ d o u. (ups_here ∙ (popped d o u).0, λ e. since d o u e, λ e. inl ((popped d o u).1 e)))
+      (λ d o u. (inbounds_here ∙ (popped d o u).0, λ e. since d o u e, λ e. inl ((popped d o u).1 e)))

@@ -5,7 +5,7 @@ use Rattle.room_msg.specs.declared.messages.Resume.{Resume}
 use Rattle.room_msg.specs.declared.messages.ServerMsg.TheVariants as server
 use Rattle.room_log.specs.Log.{State, Session, Update, ops_of}
 use Rattle.room_model.specs.Account.{Stage, Idle, Synced, actor_in}
-use Rattle.room_model.specs.Server.{Down, Message, Closed, Link, has_fetched}
+use Rattle.room_model.specs.Server.{Outbound, Message, Closed, Link, has_fetched}
 use Rattle.room_model.specs.Run.{all_given}
 use Rattle.room_laws.specs.Queues.{Place, IsOn, Says, Waits}
 use Rattle.room_laws.specs.Invariant
@@ -17,19 +17,19 @@ pub grown_nil : (p : Place) → grown [] p ≡ p
 grown_nil p = ap (λ (us : List Update). record p { coming = us }) (append-nil p.coming)
 
 -- each may be taken anywhere, or wherever the client is on
-abbrev pub AllSaid : List Down → Type 0
+abbrev pub AllSaid : List Outbound → Type 0
 AllSaid [] = Unit {0}
 AllSaid (m ∷ ms) = ((s : State) (w : Option Resume) (p : Place) → IsOn p.stage → Says s w p m p) × AllSaid ms
 
-pub waits_said : (s : State) (w : Option Resume) (p : Place) (ms : List Down) → IsOn p.stage → AllSaid ms → Waits s w p ms p
+pub waits_said : (s : State) (w : Option Resume) (p : Place) (ms : List Outbound) → IsOn p.stage → AllSaid ms → Waits s w p ms p
 waits_said s w p [] on h = refl
 waits_said s w p (m ∷ ms) on h = record { next = p; says = h.0 s w p on; more = waits_said s w p ms on h.1 }
 
-module _ (s : State) (us : List Update) (ss : List Session) (given more : List (ℕ × Option ℕ)) (c : ℕ) (session : Option Resume) (here : Place) (q : List Down) where
+module _ (s : State) (us : List Update) (ss : List Session) (given more : List (ℕ × Option ℕ)) (c : ℕ) (session : Option Resume) (here : Place) (q : List Outbound) where
   abbrev Before : Option Link → Type 0
   Before l = Invariant.Present s us ss given c session here q l
 
-  abbrev After : List Update → List Session → List Down → Option Link → Type 0
+  abbrev After : List Update → List Session → List Outbound → Option Link → Type 0
   After grew ts ms l = Invariant.Present s (us ++ grew) ts (given ++ more) c session (grown grew here) (q ++ ms) l
 
   -- how a session that the client doesn't know goes on being new
@@ -42,7 +42,7 @@ module _ (s : State) (us : List Update) (ss : List Session) (given more : List (
   new_in grew ts (Some w) z f g u = f w z u (g (given_before c w.actor given more u))
 
   -- the general form: the queue goes on to another place
-  pub present_on : (grew : List Update) (ts : List Session) (ms : List Down) (l l' : Option Link) (end : Place) → StaysNew grew ts → (p : Before l)
+  pub present_on : (grew : List Update) (ts : List Session) (ms : List Outbound) (l l' : Option Link) (end : Place) → StaysNew grew ts → (p : Before l)
       → Waits s p.who (grown grew p.end) ms end → Invariant.Linked p.who here.stage (q ++ ms) end l' → After grew ts ms l'
   present_on grew ts ms l l' end f p w k = record {
     who = p.who;
@@ -55,15 +55,15 @@ module _ (s : State) (us : List Update) (ss : List Session) (given more : List (
   }
 
   -- nothing comes, or what may be taken wherever a client is on
-  linked_said : (o : Option Resume) (now : Stage) (end : Place) (ms : List Down) (l : Link) → (l.actor ≡ None → ms ≡ []) → Invariant.Linked o now q end (Some l) → Invariant.Linked o now (q ++ ms) end (Some l)
+  linked_said : (o : Option Resume) (now : Stage) (end : Place) (ms : List Outbound) (l : Link) → (l.actor ≡ None → ms ≡ []) → Invariant.Linked o now q end (Some l) → Invariant.Linked o now (q ++ ms) end (Some l)
   linked_said o now end ms l f (inl k) = inl (record { none = k.none; unfetched = k.unfetched; empty = ap (λ ns. q ++ ns) (f k.none) ∙ append-nil q ∙ k.empty; dialled = k.dialled; whole = k.whole })
   linked_said o now end ms l f (inr k) = inr k
 
-  waits_linked : (o : Option Resume) (now : Stage) (end : Place) (ms : List Down) (l : Link) → (l.actor ≡ None → ms ≡ []) → AllSaid ms → Invariant.Linked o now q end (Some l) → Waits s o end ms end
+  waits_linked : (o : Option Resume) (now : Stage) (end : Place) (ms : List Outbound) (l : Link) → (l.actor ≡ None → ms ≡ []) → AllSaid ms → Invariant.Linked o now q end (Some l) → Waits s o end ms end
   waits_linked o now end ms l f h (inl k) = rw (f k.none) refl
   waits_linked o now end ms l f h (inr k) = waits_said s o end ms k.on h
 
-  pub present_said : (ts : List Session) (ms : List Down) (l : Link) → StaysNew [] ts → (l.actor ≡ None → ms ≡ []) → AllSaid ms → Before (Some l) → After [] ts ms (Some l)
+  pub present_said : (ts : List Session) (ms : List Outbound) (l : Link) → StaysNew [] ts → (l.actor ≡ None → ms ≡ []) → AllSaid ms → Before (Some l) → After [] ts ms (Some l)
   present_said ts ms l f g h p = present_on [] ts ms (Some l) (Some l) p.end f p
       (subst (λ (e : Place). Waits s p.who e ms p.end) (sym (grown_nil p.end)) (waits_linked p.who here.stage p.end ms l g h p.linked))
       (linked_said p.who here.stage p.end ms l g p.linked)

@@ -1,7 +1,7 @@
 -- Each call and each message keeps an account sound.
 use Rattle.room_laws.specs.Accounts.{KeepsSound, TreesAreValid, EmptyFits}
 use Rattle.room_laws.proofs.SoundCalls.{new_sound, lost_sound, dialled_sound, begin_sound, end_sound, pause_sound, resume_sound, clear_sound, presence_sound, event_sound, flushed_sound, resent_sound, edit_sound, back_sound}
-use Rattle.room_laws.proofs.SoundComes.{comes_sound}
+use Rattle.room_laws.proofs.SoundReceives.{receive_sound}
 
 pub keeps_sound : TreesAreValid → EmptyFits → KeepsSound
 keeps_sound trees fits = record {
@@ -19,5 +19,5 @@ keeps_sound trees fits = record {
   clears = clear_sound;
   flushed = flushed_sound;
   resent = resent_sound;
-  comes = comes_sound trees;
+  receive = receive_sound trees;
 }

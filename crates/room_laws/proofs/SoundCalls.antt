@@ -258,7 +258,7 @@ edit_sound x e out h s p =
 
 -- undo and redo
 
-went_sound : (way : calls.Way) (x : Account) (entry : List Change) → x.batch ≡ None → calls.entry_of way x.history ≡ Some entry → IsSound x → spent (last_issued x + 1) (length (calls.entry_bodies entry)) ≡ None
+went_sound : (way : calls.Direction) (x : Account) (entry : List Change) → x.batch ≡ None → calls.entry_of way x.history ≡ Some entry → IsSound x → spent (last_issued x + 1) (length (calls.entry_bodies entry)) ≡ None
     → calls.presence_size (calls.entry_presence x.me entry) ≤ most_bytes → IsSound (calls.went_back way x entry).account
 went_sound way x entry e f h s fits =
     let bs = calls.entry_bodies entry in
@@ -275,7 +275,7 @@ went_sound way x entry e f h s fits =
     (holds_gone AreValidChanges tt changes_append way (calls.entry_reversal t x.me entry) x.history (reversal_valid t x.me entry (bare_valid x h) h.presence.own valid) h.history)
     (presence_valid x.me entry h.presence.own valid) fits
 
-size_at : (way : calls.Way) (x : Account) (entry : List Change) (out : calls.Done) (b c : Bool) (fault : calls.UndoFault) → nat_lt most_bytes (calls.presence_size (calls.entry_presence x.me entry)) ≡ c → x.batch ≡ None → calls.entry_of way x.history ≡ Some entry → IsSound x
+size_at : (way : calls.Direction) (x : Account) (entry : List Change) (out : calls.Done) (b c : Bool) (fault : calls.UndoFault) → nat_lt most_bytes (calls.presence_size (calls.entry_presence x.me entry)) ≡ c → x.batch ≡ None → calls.entry_of way x.history ≡ Some entry → IsSound x
     → spent (last_issued x + 1) (length (calls.entry_bodies entry)) ≡ None
     → cond b (Err fault) (cond c (Err (calls.UndoTooLarge (calls.presence_size (calls.entry_presence x.me entry)))) (Ok (Some (calls.went_back way x entry)))) ≡ Ok (Some out) → IsSound out.account
 size_at way x entry out true c fault q e f h s p = cc
@@ -283,20 +283,20 @@ size_at way x entry out false true fault q e f h s p = cc
 size_at way x entry out false false fault q e f h s p =
     subst (λ (d : calls.Done). IsSound d.account) (some_is (calls.went_back way x entry) out (ok_is _ _ p)) (went_sound way x entry e f h s (fits_by (calls.presence_size (calls.entry_presence x.me entry)) q))
 
-clocked_at : (way : calls.Way) (x : Account) (entry : List Change) (out : calls.Done) (o : Option ℕ) → spent (last_issued x + 1) (length (calls.entry_bodies entry)) ≡ o → x.batch ≡ None → calls.entry_of way x.history ≡ Some entry → IsSound x
+clocked_at : (way : calls.Direction) (x : Account) (entry : List Change) (out : calls.Done) (o : Option ℕ) → spent (last_issued x + 1) (length (calls.entry_bodies entry)) ≡ o → x.batch ≡ None → calls.entry_of way x.history ≡ Some entry → IsSound x
     → calls.back_clocked way x entry (calls.entry_bodies entry) o ≡ Ok (Some out) → IsSound out.account
 clocked_at way x entry out (Some l) q e f h p = cc
 clocked_at way x entry out None q e f h p =
     let size = size_of (frame_of_ops (ops_from (actor x) (last_issued x + 1) (calls.entry_bodies entry))) in
     size_at way x entry out (is_some_list (calls.entry_bodies entry) && nat_lt most_bytes size) (nat_lt most_bytes (calls.presence_size (calls.entry_presence x.me entry))) (calls.UndoBatchTooLarge size) refl e f h q p
 
-entry_at : (way : calls.Way) (x : Account) (out : calls.Done) (o : Option (List Change)) → calls.entry_of way x.history ≡ o → x.batch ≡ None → IsSound x → calls.back_entry way x o ≡ Ok (Some out) → IsSound out.account
+entry_at : (way : calls.Direction) (x : Account) (out : calls.Done) (o : Option (List Change)) → calls.entry_of way x.history ≡ o → x.batch ≡ None → IsSound x → calls.back_entry way x o ≡ Ok (Some out) → IsSound out.account
 entry_at way x out None f e h p = absurd (none_some out (ok_is _ _ p))
 entry_at way x out (Some entry) f e h p = clocked_at way x entry out (spent (last_issued x + 1) (length (calls.entry_bodies entry))) refl e f h p
 
-back_at : (way : calls.Way) (x : Account) (out : calls.Done) (o : Option OpenBatch) → x.batch ≡ o → IsSound x → calls.back_at way x o ≡ Ok (Some out) → IsSound out.account
+back_at : (way : calls.Direction) (x : Account) (out : calls.Done) (o : Option OpenBatch) → x.batch ≡ o → IsSound x → calls.back_at way x o ≡ Ok (Some out) → IsSound out.account
 back_at way x out (Some o) e h p = cc
 back_at way x out None e h p = entry_at way x out (calls.entry_of way x.history) refl e h p
 
-pub back_sound : (way : calls.Way) (x : Account) (out : calls.Done) → IsSound x → calls.go_back way x ≡ Ok (Some out) → IsSound out.account
+pub back_sound : (way : calls.Direction) (x : Account) (out : calls.Done) → IsSound x → calls.go_back way x ≡ Ok (Some out) → IsSound out.account
 back_sound way x out h p = back_at way x out x.batch refl h p

@@ -11,23 +11,23 @@ use Rattle.room_log.specs.Follows.{IsKey, IsValidLog, IsValidState}
 use Rattle.room_model.specs.Edits.{Edit, EditFault}
 use Rattle.room_model.specs.Account.{Account}
 use Rattle.room_model.specs.Calls as calls
-use Rattle.room_model.specs.Comes
+use Rattle.room_model.specs.Receive
 use Rattle.room_model.specs.Server
-use Rattle.room_model.specs.Server.{Down, Pong, Message, Closed, Up, Link, Served}
+use Rattle.room_model.specs.Server.{Outbound, Pong, Message, Closed, Inbound, Link, Served}
 use Rattle.room_model.specs.Lines as lines
-use Rattle.room_model.specs.Sound.{IsSound, IsSoundEdit, IsLine, IsReadSound}
+use Rattle.room_model.specs.Sound.{IsSound, IsSoundEdit, IsCall, IsTraffic, IsService, IsLine, IsReadSound}
 use Rattle.room_model.specs.World
-use Rattle.room_model.specs.World.{World, Conn, Seat, Stepped, Host, Running, Stopped, state_in, entries_in}
-use Rattle.room_model.specs.Run.{seat_in, account}
+use Rattle.room_model.specs.World.{World, Conn, Slot, Stepped, Host, Running, Stopped, state_in, entries_in, slot, account}
 use Rattle.room_laws.specs.Accounts.{KeepsSound}
 use Rattle.room_laws.specs.Invariant.{conn_in}
 use Rattle.room_laws.proofs.ReadSound.{read_sound}
-use Rattle.room_laws.specs.Validity.{AreLimits, AreSoundDowns, AreSoundUps, IsSoundConn, IsSoundDown, IsSoundHost, IsSoundServer, IsSoundWorld, ItemsOfValid}
+use Rattle.room_laws.specs.Validity.{AreLimits, AreSoundOutbounds, AreSoundInbounds, IsSoundConn, IsSoundOutbound, IsSoundHost, IsSoundServer, IsSoundWorld, ItemsOfValid}
 use Rattle.room_laws.proofs.Maps.{conn_same, conn_other, emptied_at, get_none}
-use Rattle.room_laws.proofs.Calls.{seat_same, seat_other}
+use Rattle.room_laws.proofs.Calls.{slot_same, slot_other}
 use Rattle.room_laws.proofs.SoundMaps.{each_put}
 use Rattle.room_laws.proofs.SoundSends.{AreSoundFrames, hello_sound, flush_sound, resend_sound, replies_sound}
 use Rattle.room_laws.proofs.SoundServes.{AreSoundOuts, Goes, serve_goes, gone_is}
+use Rattle.room_laws.proofs.Single.{receive_one}
 
 -- queues
 
@@ -43,40 +43,40 @@ conn_put m k q h i j = ⊎_elim
     (λ e. subst IsSoundConn (sym (conn_other m k q j e)) (h j))
     (cases_eq j k)
 
-ups-append : (us vs : List Up) → AreSoundUps us → AreSoundUps vs → AreSoundUps (us ++ vs)
-ups-append [] vs h k = k
-ups-append (u ∷ us) vs h k = (h.0, ups-append us vs h.1 k)
+inbounds-append : (us vs : List Inbound) → AreSoundInbounds us → AreSoundInbounds vs → AreSoundInbounds (us ++ vs)
+inbounds-append [] vs h k = k
+inbounds-append (u ∷ us) vs h k = (h.0, inbounds-append us vs h.1 k)
 
-downs-put : (ms : List Down) (m : Down) → AreSoundDowns ms → IsSoundDown m → AreSoundDowns (ms ++ m ∷ [])
-downs-put [] m h k = (k, tt)
-downs-put (x ∷ xs) m h k = (h.0, downs-put xs m h.1 k)
+outbounds-put : (ms : List Outbound) (m : Outbound) → AreSoundOutbounds ms → IsSoundOutbound m → AreSoundOutbounds (ms ++ m ∷ [])
+outbounds-put [] m h k = (k, tt)
+outbounds-put (x ∷ xs) m h k = (h.0, outbounds-put xs m h.1 k)
 
-down_sound : (q : Conn) (m : Down) → IsSoundConn q → IsSoundDown m → IsSoundConn (World.with_down q m)
-down_sound q m h i = record { up = up (World.is_close m); down = down q.listens }
+outbound_sound : (q : Conn) (m : Outbound) → IsSoundConn q → IsSoundOutbound m → IsSoundConn (World.with_outbound q m)
+outbound_sound q m h i = record { inbound = inbound (World.is_close m); outbound = outbound q.listens }
   where
-    up : (b : Bool) → AreSoundUps (cond b [] q.up)
-    up true = tt
-    up false = h.up
+    inbound : (b : Bool) → AreSoundInbounds (cond b [] q.inbound)
+    inbound true = tt
+    inbound false = h.inbound
 
-    down : (b : Bool) → AreSoundDowns (cond b (q.down ++ m ∷ []) q.down)
-    down true = downs-put q.down m h.down i
-    down false = h.down
+    outbound : (b : Bool) → AreSoundOutbounds (cond b (q.outbound ++ m ∷ []) q.outbound)
+    outbound true = outbounds-put q.outbound m h.outbound i
+    outbound false = h.outbound
 
-give_sound : (m : FinMap nat_cmp Conn) (k : ℕ) (d : Down) (o : Option Conn) → get m k ≡ o → EachConn m → IsSoundDown d → EachConn (World.give m k d o)
+give_sound : (m : FinMap nat_cmp Conn) (k : ℕ) (d : Outbound) (o : Option Conn) → get m k ≡ o → EachConn m → IsSoundOutbound d → EachConn (World.give m k d o)
 give_sound m k d None e h i = h
-give_sound m k d (Some q) e h i = conn_put m k (World.with_down q d) h (down_sound q d (conn_got m k q h e) i)
+give_sound m k d (Some q) e h i = conn_put m k (World.with_outbound q d) h (outbound_sound q d (conn_got m k q h e) i)
 
-deliver_sound : (m : FinMap nat_cmp Conn) (os : List (ℕ × Down)) → EachConn m → AreSoundOuts os → EachConn (World.deliver m os)
+deliver_sound : (m : FinMap nat_cmp Conn) (os : List (ℕ × Outbound)) → EachConn m → AreSoundOuts os → EachConn (World.deliver m os)
 deliver_sound m [] h i = h
 deliver_sound m (o ∷ os) h i = deliver_sound (World.give m o.0 o.1 (get m o.0)) os (give_sound m o.0 o.1 (get m o.0) refl h i.0) i.1
 
 cut_sound : (m : FinMap nat_cmp Conn) (k : ℕ) (o : Option Conn) → get m k ≡ o → EachConn m → EachConn (World.cut_conn m k o)
 cut_sound m k None e h = h
-cut_sound m k (Some q) e h = conn_put m k (record q { down = []; listens = false }) h (record { up = (conn_got m k q h e).up; down = tt })
+cut_sound m k (Some q) e h = conn_put m k (record q { outbound = []; listens = false }) h (record { inbound = (conn_got m k q h e).inbound; outbound = tt })
 
 left_sound : (m : FinMap nat_cmp Conn) (k : ℕ) (o : Option Conn) → get m k ≡ o → EachConn m → EachConn (World.gone_conn m k o)
 left_sound m k None e h = h
-left_sound m k (Some q) e h = conn_put m k (record q { up = [] }) h (record { up = tt; down = (conn_got m k q h e).down })
+left_sound m k (Some q) e h = conn_put m k (record q { inbound = [] }) h (record { inbound = tt; outbound = (conn_got m k q h e).outbound })
 
 -- a step: what it leaves, and the entries from the state s on
 
@@ -97,14 +97,14 @@ module _ (n : ℕ) (s : State) where
   saying : (w : World) (ls : List (List ℕ)) → Same n s w → Stands n s (World.saying w ls)
   saying w ls h = record { world = h.world; log = tt; state = h.state }
 
-  put_seat : (w : World) (c : ℕ) (p : Seat) → Same n s w → IsSound p.account → Same n s (World.with_seat w c p)
-  put_seat w c p h i = record {
+  put_slot : (w : World) (c : ℕ) (p : Slot) → Same n s w → IsSound p.account → Same n s (World.with_slot w c p)
+  put_slot w c p h i = record {
     world = record {
       host = h.world.host;
       limits = h.world.limits;
       clients = λ d. ⊎_elim
-          (λ e. subst (λ m. IsSound (account (World.with_seat w c p) m)) (sym e) (subst (λ (z : Seat). IsSound z.account) (sym (seat_same w c p)) i))
-          (λ e. subst (λ (z : Seat). IsSound z.account) (sym (seat_other w c d p e)) (h.world.clients d))
+          (λ e. subst (λ m. IsSound (account (World.with_slot w c p) m)) (sym e) (subst (λ (z : Slot). IsSound z.account) (sym (slot_same w c p)) i))
+          (λ e. subst (λ (z : Slot). IsSound z.account) (sym (slot_other w c d p e)) (h.world.clients d))
           (cases_eq d c);
       conns = h.world.conns;
       opened = h.world.opened;
@@ -124,19 +124,19 @@ module _ (n : ℕ) (s : State) where
     state = h.state;
   }
 
-  send_at : (w : World) (k : ℕ) (us : List Up) (b : Bool) (o : Option Conn) → get w.conns k ≡ o → Same n s w → AreSoundUps us → Same n s (World.ups_on w k us b o)
+  send_at : (w : World) (k : ℕ) (us : List Inbound) (b : Bool) (o : Option Conn) → get w.conns k ≡ o → Same n s w → AreSoundInbounds us → Same n s (World.inbounds_on w k us b o)
   send_at w k us true (Some q) e h i =
       let was = conn_got w.conns k q h.world.conns e in
-      put_conns w (insert w.conns k (record q { up = q.up ++ us })) h (conn_put w.conns k (record q { up = q.up ++ us }) h.world.conns (record { up = ups-append q.up us was.up i; down = was.down }))
+      put_conns w (insert w.conns k (record q { inbound = q.inbound ++ us })) h (conn_put w.conns k (record q { inbound = q.inbound ++ us }) h.world.conns (record { inbound = inbounds-append q.inbound us was.inbound i; outbound = was.outbound }))
   send_at w k us true None e h i = h
   send_at w k us false o e h i = h
 
-  send : (w : World) (k : ℕ) (us : List Up) → Same n s w → AreSoundUps us → Same n s (World.send_up w k us)
+  send : (w : World) (k : ℕ) (us : List Inbound) → Same n s w → AreSoundInbounds us → Same n s (World.send_inbound w k us)
   send w k us h i = send_at w k us (World.is_attached w k) (get w.conns k) refl h i
 
   send_present : (w : World) (o : Option ℕ) (fs : List (List ClientMsg)) → Same n s w → AreSoundFrames fs → Same n s (World.send_present w o fs)
   send_present w None fs h i = h
-  send_present w (Some k) fs h i = send w k (map World.frame_up fs) h i
+  send_present w (Some k) fs h i = send w k (map World.inbound_frame fs) h i
 
   cut_present : (w : World) (o : Option ℕ) → Same n s w → Same n s (World.cut_present w o)
   cut_present w None h = h
@@ -147,7 +147,7 @@ module _ (n : ℕ) (s : State) where
     host = i;
     limits = h.limits;
     clients = h.clients;
-    conns = λ k. subst IsSoundConn (sym (emptied_at w.conns k)) (record { up = tt; down = tt });
+    conns = λ k. subst IsSoundConn (sym (emptied_at w.conns k)) (record { inbound = tt; outbound = tt });
     opened = h.opened;
   }
 
@@ -179,7 +179,7 @@ module _ (n : ℕ) (s : State) where
       host = opened_host w.host (w.opened + 1) h.world.host (omega (arith, below, key));
       limits = h.world.limits;
       clients = h.world.clients;
-      conns = conn_put w.conns (w.opened + 1) (World.new_conn owner) h.world.conns (record { up = tt; down = tt });
+      conns = conn_put w.conns (w.opened + 1) (World.new_conn owner) h.world.conns (record { inbound = tt; outbound = tt });
       opened = omega (arith, below);
     };
     state = opened_state w.host (w.opened + 1) ∙ h.state;
@@ -191,9 +191,9 @@ module _ (n : ℕ) (s : State) where
   cut_opened w None = refl
   cut_opened w (Some k) = refl
 
-  module _ (keep : KeepsSound) (w : World) (number c : ℕ) (p : Seat) (h : Same n s w) (hp : IsSound p.account) where
-    put : (y : Account) (o : Option ℕ) (ns : List _) → IsSound y → Same n s (World.with_seat w c (record { account = y; present = o; noticed = ns }))
-    put y o ns i = put_seat w c (record { account = y; present = o; noticed = ns }) h i
+  module _ (keep : KeepsSound) (w : World) (number c : ℕ) (p : Slot) (h : Same n s w) (hp : IsSound p.account) where
+    put : (y : Account) (o : Option ℕ) (ns : List _) → IsSound y → Same n s (World.with_slot w c (record { account = y; present = o; noticed = ns }))
+    put y o ns i = put_slot w c (record { account = y; present = o; noticed = ns }) h i
 
     done : (out : Stepped) → out.entries ≡ [] → Same n s out.world → Stands n s out
     done out e i = record { world = i.world; log = subst (IsValidLog s) (sym e) tt; state = i.state ∙ ap (state_after s) (sym e) }
@@ -213,7 +213,7 @@ module _ (n : ℕ) (s : State) where
     ends (Err fault) i = refused _
     ends (Ok out) i = done _ refl (put out.account p.present p.noticed (keep.batch_end p.account out hp i))
 
-    backs : (way : calls.Way) (out : Result (Option calls.Done) calls.UndoFault) → calls.go_back way p.account ≡ out → Stands n s (World.back_out w number c p out)
+    backs : (way : calls.Direction) (out : Result (Option calls.Done) calls.UndoFault) → calls.go_back way p.account ≡ out → Stands n s (World.back_out w number c p out)
     backs way (Err fault) i = refused _
     backs way (Ok None) i = saying w _ h
     backs way (Ok (Some out)) i = done _ refl (put out.account p.present out.notices (keep.go_back way p.account out hp i))
@@ -223,113 +223,73 @@ module _ (n : ℕ) (s : State) where
     says (Ok y) f = done _ refl (put y p.present p.noticed (f y refl))
 
     speaks : (y : Account) (fs : List (List ClientMsg)) → IsSound y → AreSoundFrames fs → Stands n s (World.speaks w c p y fs)
-    speaks y fs i f = quietly _ (send_present (World.with_seat w c (World.with_account p y)) p.present fs (put y p.present p.noticed i) f)
+    speaks y fs i f = quietly _ (send_present (World.with_slot w c (World.with_account p y)) p.present fs (put y p.present p.noticed i) f)
 
-    cuts : (y : Account) → IsSound y → Same n s (World.with_seat (World.cut_present w p.present) c (record { account = y; present = None; noticed = p.noticed }))
-    cuts y i = put_seat (World.cut_present w p.present) c (record { account = y; present = None; noticed = p.noticed }) (cut_present w p.present h) i
+    cuts : (y : Account) → IsSound y → Same n s (World.with_slot (World.cut_present w p.present) c (record { account = y; present = None; noticed = p.noticed }))
+    cuts y i = put_slot (World.cut_present w p.present) c (record { account = y; present = None; noticed = p.noticed }) (cut_present w p.present h) i
 
-    dials : w.opened < n → IsKey n → Same n s (World.dial_seat w c p)
+    dials : w.opened < n → IsKey n → Same n s (World.dial_slot w c p)
     dials below key =
         let x = calls.dialled p.account in
         let sound : IsSound x = keep.dialled p.account hp in
         let v = World.cut_present w p.present in
         let low : v.opened < n = omega (arith, below, cut_opened w p.present) in
-        let q : Seat = record { account = x; present = Some (w.opened + 1); noticed = p.noticed } in
-        send (World.with_seat (World.open_conn v (Some c)) c q) (w.opened + 1) (World.frame_up (calls.hello_of x) ∷ [])
-        (put_seat (World.open_conn v (Some c)) c q (open_conn v (Some c) (cut_present w p.present h) low key) sound) (hello_sound x sound, tt)
+        let q : Slot = record { account = x; present = Some (w.opened + 1); noticed = p.noticed } in
+        send (World.with_slot (World.open_conn v (Some c)) c q) (w.opened + 1) (World.inbound_frame (calls.hello_of x) ∷ [])
+        (put_slot (World.open_conn v (Some c)) c q (open_conn v (Some c) (cut_present w p.present h) low key) sound) (hello_sound x sound, tt)
 
-    client_line : (l : lines.Line) → IsLine l → w.opened < n → IsKey n → Stands n s (World.client_line w number c p l)
-    client_line (lines.Dial d) i below key = quietly _ (dials below key)
-    client_line (lines.Edits d e) i below key = edits e (calls.edit p.account e) i.1 refl
-    client_line (lines.Begin d) i below key = begins (calls.batch_begin p.account) refl
-    client_line (lines.End d) i below key = ends (calls.batch_end p.account) refl
-    client_line (lines.Undo d) i below key = backs calls.Undo (calls.go_back calls.Undo p.account) refl
-    client_line (lines.Redo d) i below key = backs calls.Redo (calls.go_back calls.Redo p.account) refl
-    client_line (lines.Pause d) i below key = quietly _ (put (calls.pause p.account) p.present p.noticed (keep.pauses p.account hp))
-    client_line (lines.Resume d) i below key = quietly _ (put (calls.resume p.account) p.present p.noticed (keep.resumes p.account hp))
-    client_line (lines.Clear d) i below key = quietly _ (put (calls.clear p.account) p.present p.noticed (keep.clears p.account hp))
-    client_line (lines.Presence d patch in_history) i below key = says (calls.presence p.account patch in_history) (λ y e. keep.presence p.account y patch in_history hp i.1 e)
-    client_line (lines.Event d e) i below key = says (calls.event p.account e) (λ y j. keep.event p.account y e hp i.1 j)
-    client_line (lines.Flush d) i below key = speaks (calls.flushed p.account) (calls.flush_frames p.account) (keep.flushed p.account hp) (flush_sound p.account hp)
-    client_line (lines.Resend d) i below key = speaks (calls.resent p.account) (calls.resend_frames p.account) (keep.resent p.account hp) (resend_sound p.account hp)
-    client_line (lines.Goes_up k) i below key = quietly w h
-    client_line (lines.Comes_down k) i below key = quietly w h
-    client_line (lines.Drain m) i below key = quietly w h
-    client_line (lines.Cut d) i below key = quietly _ (cuts (calls.lost p.account) (keep.lost p.account hp))
-    client_line (lines.Gone k) i below key = quietly w h
-    client_line lines.Stop i below key = quietly w h
-    client_line lines.Start i below key = quietly w h
-    client_line (lines.Fuse m how) i below key = quietly w h
-    client_line lines.Compact i below key = quietly w h
-    client_line (lines.Limit updates sessions) i below key = quietly w h
-    client_line lines.Link i below key = quietly w h
-    client_line (lines.Raw k text) i below key = quietly w h
-    client_line (lines.Show spot) i below key = saying w _ h
-    client_line (lines.Brief spot) i below key = saying w _ h
-    client_line (lines.Others d) i below key = saying w _ h
-    client_line (lines.HistoryOf d) i below key = saying w _ h
-    client_line (lines.NoticesOf d) i below key = saying w _ h
+    client_calls : (call : lines.Call) → IsCall call → w.opened < n → IsKey n → Stands n s (World.client_calls w number c p call)
+    client_calls lines.Dial i below key = quietly _ (dials below key)
+    client_calls (lines.Edits e) i below key = edits e (calls.edit p.account e) i refl
+    client_calls lines.Begin i below key = begins (calls.batch_begin p.account) refl
+    client_calls lines.End i below key = ends (calls.batch_end p.account) refl
+    client_calls lines.Undo i below key = backs calls.Undo (calls.go_back calls.Undo p.account) refl
+    client_calls lines.Redo i below key = backs calls.Redo (calls.go_back calls.Redo p.account) refl
+    client_calls lines.Pause i below key = quietly _ (put (calls.pause p.account) p.present p.noticed (keep.pauses p.account hp))
+    client_calls lines.Resume i below key = quietly _ (put (calls.resume p.account) p.present p.noticed (keep.resumes p.account hp))
+    client_calls lines.Clear i below key = quietly _ (put (calls.clear p.account) p.present p.noticed (keep.clears p.account hp))
+    client_calls (lines.Presence patch in_history) i below key = says (calls.presence p.account patch in_history) (λ y e. keep.presence p.account y patch in_history hp i e)
+    client_calls (lines.Event e) i below key = says (calls.event p.account e) (λ y j. keep.event p.account y e hp i j)
+    client_calls lines.Flush i below key = speaks (calls.flushed p.account) (calls.flush_frames p.account) (keep.flushed p.account hp) (flush_sound p.account hp)
+    client_calls lines.Resend i below key = speaks (calls.resent p.account) (calls.resend_frames p.account) (keep.resent p.account hp) (resend_sound p.account hp)
+    client_calls lines.Cut i below key = quietly _ (cuts (calls.lost p.account) (keep.lost p.account hp))
 
     -- what comes down
-    takes_next : (k : ℕ) (m : ServerMsg) (r : Result Comes.Took Comes.FrameFault) → IsSoundDown (Message m) → Comes.comes p.account m ≡ r
-        → Stands n s (World.frame_taken w number c k p (Comes.took_next (Comes.took p.account) r))
+    takes_next : (k : ℕ) (m : ServerMsg) (r : Result Receive.Received Receive.FrameFault) → IsSoundOutbound (Message m) → Receive.receive p.account m ≡ r
+        → Stands n s (World.frame_taken w number c k p (Receive.or_lost p.account r))
     takes_next k m (Err fault) i e = saying _ _ (cuts (calls.lost p.account) (keep.lost p.account hp))
     takes_next k m (Ok out) i e =
-        let after = keep.comes p.account m out hp i e in
-        saying _ _ (send (World.with_seat w c (record { account = out.account; present = p.present; noticed = out.notices })) k (map World.frame_up out.replies)
+        let after = keep.receive p.account m out hp i e in
+        saying _ _ (send (World.with_slot w c (record { account = out.account; present = p.present; noticed = out.notices })) k (map World.inbound_frame out.replies)
         (put out.account p.present out.notices after) (replies_sound p.account hp out after m e))
 
-    takes : (k : ℕ) (m : Down) → IsSoundDown m → Stands n s (World.client_takes w number c k p m)
-    takes k Pong i = saying _ _ (send (World.with_seat w c (record { account = p.account; present = p.present; noticed = [] })) k [] (put p.account p.present [] hp) tt)
-    takes k (Message m) i = takes_next k m (Comes.comes p.account m) i refl
+    takes : (k : ℕ) (m : Outbound) → IsSoundOutbound m → Stands n s (World.client_takes w number c k p m)
+    takes k Pong i = saying _ _ (send (World.with_slot w c (record { account = p.account; present = p.present; noticed = [] })) k [] (put p.account p.present [] hp) tt)
+    takes k (Message m) i = subst (λ r. Stands n s (World.frame_taken w number c k p r)) (sym (receive_one p.account m)) (takes_next k m (Receive.receive p.account m) i refl)
     takes k (Closed code text) i = saying _ _ (cuts (calls.lost p.account) (keep.lost p.account hp))
 
   module _ (keep : KeepsSound) where
-    seat_got : (w : World) (c : ℕ) (p : Seat) → Same n s w → get w.clients c ≡ Some p → IsSound p.account
-    seat_got w c p h e = subst (λ o. IsSound (seat_in o).account) e (h.world.clients c)
-
-    seat_at : (w : World) (c : ℕ) (o : Option Seat) → get w.clients c ≡ o → Same n s w → Same n s (World.seated_at w c o)
-    seat_at w c (Some p) e h = h
-    seat_at w c None e h = put_seat w c World.new_seat h (subst (λ o. IsSound (seat_in o).account) e (h.world.clients c))
-
-    seat_opened : (w : World) (c : ℕ) (o : Option Seat) → (World.seated_at w c o).opened ≡ w.opened
-    seat_opened w c None = refl
-    seat_opened w c (Some p) = refl
-
-    client_at : (w : World) (number c : ℕ) (l : lines.Line) (o : Option Seat) → get w.clients c ≡ o → Same n s w → IsLine l → w.opened < n → IsKey n → Stands n s (World.client_at w number c l o)
-    client_at w number c l None e h i below key = quietly w h
-    client_at w number c l (Some p) e h i below key = client_line keep w number c p h (seat_got w c p h e) l i below key
-
-    of_client : (w : World) (number c : ℕ) (l : lines.Line) → Same n s w → IsLine l → w.opened < n → IsKey n → Stands n s (World.of_client w number c l)
-    of_client w number c l h i below key =
-        let u = World.seated w c in
-        client_at u number c l (get u.clients c) refl (seat_at w c (get w.clients c) refl h) i (omega (arith, below, seat_opened w c (get w.clients c))) key
-
     -- down
 
-    link_takes : (w : World) (k : ℕ) (m : Down) → Same n s w → Stands n s (World.link_takes w k m)
+    link_takes : (w : World) (k : ℕ) (m : Outbound) → Same n s w → Stands n s (World.link_takes w k m)
     link_takes w k Pong h = saying w _ h
     link_takes w k (Message m) h = saying w _ h
     link_takes w k (Closed code text) h = saying w _ h
 
-    taken_by : (w : World) (number c k : ℕ) (m : Down) (o : Option Seat) → get w.clients c ≡ o → Same n s w → IsSoundDown m → Stands n s (World.taken_by w number c k m o)
-    taken_by w number c k m None e h i = quietly w h
-    taken_by w number c k m (Some p) e h i = takes keep w number c p h (seat_got w c p h e) k m i
-
-    owner_takes : (w : World) (number k : ℕ) (m : Down) (o : Option ℕ) → Same n s w → IsSoundDown m → Stands n s (World.owner_takes w number k m o)
+    owner_takes : (w : World) (number k : ℕ) (m : Outbound) (o : Option ℕ) → Same n s w → IsSoundOutbound m → Stands n s (World.owner_takes w number k m o)
     owner_takes w number k m None h i = link_takes w k m h
-    owner_takes w number k m (Some c) h i = taken_by w number c k m (get w.clients c) refl h i
+    owner_takes w number k m (Some c) h i = takes keep w number c (slot w c) h (h.world.clients c) k m i
 
-    down_from : (w : World) (number k : ℕ) (q : Conn) (ms : List Down) → q.down ≡ ms → IsSoundConn q → Same n s w → Stands n s (World.down_from w number k q ms)
-    down_from w number k q [] e i h = quietly w h
-    down_from w number k q (m ∷ ms) e i h =
-        let d : AreSoundDowns (m ∷ ms) = subst AreSoundDowns e i.down in
-        owner_takes (World.with_conn w k (record q { down = ms })) number k m q.owner
-        (put_conns w (insert w.conns k (record q { down = ms })) h (conn_put w.conns k (record q { down = ms }) h.world.conns (record { up = i.up; down = d.1 }))) d.0
+    outbound_from : (w : World) (number k : ℕ) (q : Conn) (ms : List Outbound) → q.outbound ≡ ms → IsSoundConn q → Same n s w → Stands n s (World.outbound_from w number k q ms)
+    outbound_from w number k q [] e i h = quietly w h
+    outbound_from w number k q (m ∷ ms) e i h =
+        let d : AreSoundOutbounds (m ∷ ms) = subst AreSoundOutbounds e i.outbound in
+        owner_takes (World.with_conn w k (record q { outbound = ms })) number k m q.owner
+        (put_conns w (insert w.conns k (record q { outbound = ms })) h (conn_put w.conns k (record q { outbound = ms }) h.world.conns (record { inbound = i.inbound; outbound = d.1 }))) d.0
 
-    down_at : (w : World) (number k : ℕ) (o : Option Conn) → get w.conns k ≡ o → Same n s w → Stands n s (World.down_at w number k o)
-    down_at w number k None e h = quietly w h
-    down_at w number k (Some q) e h = down_from w number k q q.down refl (conn_got w.conns k q h.world.conns e) h
+    outbound_at : (w : World) (number k : ℕ) (o : Option Conn) → get w.conns k ≡ o → Same n s w → Stands n s (World.outbound_at w number k o)
+    outbound_at w number k None e h = quietly w h
+    outbound_at w number k (Some q) e h = outbound_from w number k q q.outbound refl (conn_got w.conns k q h.world.conns e) h
 
   -- up
 
@@ -361,20 +321,20 @@ module _ (n : ℕ) (s : State) where
     answered (World.Fires call how) i = fired (World.is_kept call how) i
 
   module _ (items : ItemsOfValid) where
-    up_from : (w : World) (k : ℕ) (g : Host) (q : Conn) (us : List Up) → w.host ≡ g → q.up ≡ us → IsSoundConn q → Same n s w → Stands n s (World.up_from w k g q us)
-    up_from w k (Running v) q [] e f i h = quietly w h
-    up_from w k (Stopped z) q us e f i h = quietly w h
-    up_from w k (Running v) q (u ∷ us) e f i h =
-        let d : AreSoundUps (u ∷ us) = subst AreSoundUps f i.up in
+    inbound_from : (w : World) (k : ℕ) (g : Host) (q : Conn) (us : List Inbound) → w.host ≡ g → q.inbound ≡ us → IsSoundConn q → Same n s w → Stands n s (World.inbound_from w k g q us)
+    inbound_from w k (Running v) q [] e f i h = quietly w h
+    inbound_from w k (Stopped z) q us e f i h = quietly w h
+    inbound_from w k (Running v) q (u ∷ us) e f i h =
+        let d : AreSoundInbounds (u ∷ us) = subst AreSoundInbounds f i.inbound in
         let sound : IsSoundServer v = subst IsSoundHost e h.world.host in
-        let x = World.with_conn w k (record q { up = us }) in
+        let x = World.with_conn w k (record q { inbound = us }) in
         answered x v k (Server.serve v k u)
-        (put_conns w (insert w.conns k (record q { up = us })) h (conn_put w.conns k (record q { up = us }) h.world.conns (record { up = d.1; down = i.down })))
+        (put_conns w (insert w.conns k (record q { inbound = us })) h (conn_put w.conns k (record q { inbound = us }) h.world.conns (record { inbound = d.1; outbound = i.outbound })))
         (ap state_in (sym e) ∙ h.state) (serve_goes items v sound k u d.0) (World.burn (World.commit_calls (Server.serve v k u).entry) x.fuse) sound.state
 
-    up_at : (w : World) (k : ℕ) (o : Option Conn) → get w.conns k ≡ o → Same n s w → Stands n s (World.up_at w k o)
-    up_at w k None e h = quietly w h
-    up_at w k (Some q) e h = up_from w k w.host q q.up refl refl (conn_got w.conns k q h.world.conns e) h
+    inbound_at : (w : World) (k : ℕ) (o : Option Conn) → get w.conns k ≡ o → Same n s w → Stands n s (World.inbound_at w k o)
+    inbound_at w k None e h = quietly w h
+    inbound_at w k (Some q) e h = inbound_from w k w.host q q.inbound refl refl (conn_got w.conns k q h.world.conns e) h
 
     -- lines of connections and of the server
 
@@ -473,56 +433,41 @@ module _ (keep : KeepsSound) (items : ItemsOfValid) (n : ℕ) where
   }
 
   drain_step : (s : State) (w : World) (number : ℕ) (a b : Option ℕ) → Same n s w → Stands n s (World.or_quiet w (World.drain_step w number a b))
-  drain_step s w number (Some k) b h = up_at n s items w k (get w.conns k) refl h
-  drain_step s w number None (Some k) h = down_at n s keep w number k (get w.conns k) refl h
+  drain_step s w number (Some k) b h = inbound_at n s items w k (get w.conns k) refl h
+  drain_step s w number None (Some k) h = outbound_at n s keep w number k (get w.conns k) refl h
   drain_step s w number None None h = quietly n s w h
-
-  drain_from : (s : State) (number m : ℕ) (so_far : Stepped) → Stands n s so_far → Stands n s (World.drain_from m number so_far)
-  drain_from s number zero so_far h = h
-  drain_from s number (suc m) so_far h =
-      let w = so_far.world in
-      let next = World.or_quiet w (World.drain_next w number) in
-      drain_from s number m (World.then_stepped so_far next) (then_stands s so_far next h
-      (drain_step (state_after s so_far.entries) w number (World.least World.has_up (entries w.conns)) (World.least World.has_down (entries w.conns)) (record { world = h.world; state = h.state })))
 
   drains : (s : State) (w : World) (number m : ℕ) → Same n s w → Stands n s (World.drain w number m)
   unfolding World.drain
-  drains s w number m h = drain_from s number m (World.quiet w) (quietly n s w h)
+  drains s w number zero h = quietly n s w h
+  drains s w number (suc m) h =
+      let out = World.drain_once w number in
+      let once = drain_step s w number (World.least World.has_inbound (entries w.conns)) (World.least World.has_outbound (entries w.conns)) h in
+      then_stands s out (World.drain out.world number m) once (drains (state_after s out.entries) out.world number m (record { world = once.world; state = once.state }))
 
   at : (s : State) (w : World) → IsSoundWorld n w → s ≡ state_in w.host → Same n s w
   at s w h e = record { world = h; state = sym e }
 
-  -- a line, of a world in which one more connection has room
+  conn_line : (w : World) (number k : ℕ) (traffic : lines.Traffic) → IsSoundWorld n w → IsTraffic traffic → Stands n (state_in w.host) (World.conn_line w number k traffic)
+  conn_line w number k lines.Up h i = inbound_at n _ items w k (get w.conns k) refl (at _ w h refl)
+  conn_line w number k lines.Down h i = outbound_at n _ keep w number k (get w.conns k) refl (at _ w h refl)
+  conn_line w number k lines.Gone h i = quietly n _ _ (gone_on n _ items w k w.host (World.is_attached w k) refl (at _ w h refl))
+  conn_line w number k (lines.Raw text) h i = quietly n _ _ (raw_at n _ w k text (get w.conns k) (at _ w h refl) i)
+
+  server_line : (w : World) (service : lines.Service) → IsSoundWorld n w → IsService service → Stands n (state_in w.host) (World.server_line w service)
+  server_line w lines.Stop h i = quietly n _ _ (stop n _ w w.host refl (at _ w h refl))
+  server_line w lines.Start h i = start n _ w w.host refl (at _ w h refl)
+  server_line w (lines.Fuse calls how) h i = quietly n _ _ (put_fuse n _ w (Some (record { left = calls; how = how })) (at _ w h refl))
+  server_line w lines.Compact h i = quietly n _ _ (compact n _ w w.host refl (at _ w h refl))
+  server_line w (lines.Limit updates sessions) h i = quietly n _ _ (limit n _ w (record { updates = updates; sessions = sessions }) (at _ w h refl) (record { updates = i.0; sessions = i.1 }))
+  server_line w lines.ShowServer h i = saying n _ w _ (at _ w h refl)
+  server_line w lines.BriefServer h i = saying n _ w _ (at _ w h refl)
+
+  -- a line, of a world in which one more connection may be opened
   pub step_stands : (w : World) (number : ℕ) (l : lines.Line) → IsSoundWorld n w → IsLine l → w.opened < n → IsKey n → Stands n (state_in w.host) (World.step w number l)
-  step_stands w number (lines.Dial c) h i below key = of_client n _ keep w number c (lines.Dial c) (at _ w h refl) i below key
-  step_stands w number (lines.Edits c e) h i below key = of_client n _ keep w number c (lines.Edits c e) (at _ w h refl) i below key
-  step_stands w number (lines.Begin c) h i below key = of_client n _ keep w number c (lines.Begin c) (at _ w h refl) i below key
-  step_stands w number (lines.End c) h i below key = of_client n _ keep w number c (lines.End c) (at _ w h refl) i below key
-  step_stands w number (lines.Undo c) h i below key = of_client n _ keep w number c (lines.Undo c) (at _ w h refl) i below key
-  step_stands w number (lines.Redo c) h i below key = of_client n _ keep w number c (lines.Redo c) (at _ w h refl) i below key
-  step_stands w number (lines.Pause c) h i below key = of_client n _ keep w number c (lines.Pause c) (at _ w h refl) i below key
-  step_stands w number (lines.Resume c) h i below key = of_client n _ keep w number c (lines.Resume c) (at _ w h refl) i below key
-  step_stands w number (lines.Clear c) h i below key = of_client n _ keep w number c (lines.Clear c) (at _ w h refl) i below key
-  step_stands w number (lines.Presence c patch in_history) h i below key = of_client n _ keep w number c (lines.Presence c patch in_history) (at _ w h refl) i below key
-  step_stands w number (lines.Event c e) h i below key = of_client n _ keep w number c (lines.Event c e) (at _ w h refl) i below key
-  step_stands w number (lines.Flush c) h i below key = of_client n _ keep w number c (lines.Flush c) (at _ w h refl) i below key
-  step_stands w number (lines.Resend c) h i below key = of_client n _ keep w number c (lines.Resend c) (at _ w h refl) i below key
-  step_stands w number (lines.Cut c) h i below key = of_client n _ keep w number c (lines.Cut c) (at _ w h refl) i below key
-  step_stands w number (lines.Show (lines.AClient c)) h i below key = of_client n _ keep w number c (lines.Show (lines.AClient c)) (at _ w h refl) i below key
-  step_stands w number (lines.Show lines.TheServer) h i below key = saying n _ w _ (at _ w h refl)
-  step_stands w number (lines.Brief (lines.AClient c)) h i below key = of_client n _ keep w number c (lines.Brief (lines.AClient c)) (at _ w h refl) i below key
-  step_stands w number (lines.Brief lines.TheServer) h i below key = saying n _ w _ (at _ w h refl)
-  step_stands w number (lines.Others c) h i below key = of_client n _ keep w number c (lines.Others c) (at _ w h refl) i below key
-  step_stands w number (lines.HistoryOf c) h i below key = of_client n _ keep w number c (lines.HistoryOf c) (at _ w h refl) i below key
-  step_stands w number (lines.NoticesOf c) h i below key = of_client n _ keep w number c (lines.NoticesOf c) (at _ w h refl) i below key
-  step_stands w number (lines.Goes_up k) h i below key = up_at n _ items w k (get w.conns k) refl (at _ w h refl)
-  step_stands w number (lines.Comes_down k) h i below key = down_at n _ keep w number k (get w.conns k) refl (at _ w h refl)
+  step_stands w number (lines.OfClient c call) h i below key = client_calls n _ keep w number c (slot w c) (at _ w h refl) (h.clients c) call i.1 below key
+  step_stands w number (lines.AsksClient c question) h i below key = saying n _ w _ (at _ w h refl)
+  step_stands w number (lines.OfConnection k traffic) h i below key = conn_line w number k traffic h i
+  step_stands w number (lines.OfServer service) h i below key = server_line w service h i
   step_stands w number (lines.Drain m) h i below key = drains _ w number m (at _ w h refl)
-  step_stands w number (lines.Gone k) h i below key = quietly n _ _ (gone_on n _ items w k w.host (World.is_attached w k) refl (at _ w h refl))
-  step_stands w number lines.Stop h i below key = quietly n _ _ (stop n _ w w.host refl (at _ w h refl))
-  step_stands w number lines.Start h i below key = start n _ w w.host refl (at _ w h refl)
-  step_stands w number (lines.Fuse calls how) h i below key = quietly n _ _ (put_fuse n _ w (Some (record { left = calls; how = how })) (at _ w h refl))
-  step_stands w number lines.Compact h i below key = quietly n _ _ (compact n _ w w.host refl (at _ w h refl))
-  step_stands w number (lines.Limit updates sessions) h i below key = quietly n _ _ (limit n _ w (record { updates = updates; sessions = sessions }) (at _ w h refl) (record { updates = i.0; sessions = i.1 }))
   step_stands w number lines.Link h i below key = quietly n _ _ (open_conn n _ w None (at _ w h refl) below key)
-  step_stands w number (lines.Raw k text) h i below key = quietly n _ _ (raw_at n _ w k text (get w.conns k) (at _ w h refl) i)

@@ -22,15 +22,15 @@ use Rattle.room_log.specs.Follows.{most, most_actor}
 use Rattle.room_model.specs.Account
 use Rattle.room_model.specs.Account.{Account, Batch, Part, Stage}
 use Rattle.room_model.specs.Calls as calls
-use Rattle.room_model.specs.Comes
-use Rattle.room_model.specs.Comes.{Took, FrameFault}
+use Rattle.room_model.specs.Receive
+use Rattle.room_model.specs.Receive.{Received, FrameFault}
 use Rattle.room_model.specs.Presence.{unsent_members, is_among}
 use Rattle.room_model.specs.Sound.{IsSound, IsSession, RunsOn, AreValidBatches, AreValidEvents}
-use Rattle.room_model.specs.World.{frame_up}
-use Rattle.room_laws.specs.Validity.{AreSoundUps, IsSoundUp}
+use Rattle.room_model.specs.World.{inbound_frame}
+use Rattle.room_laws.specs.Validity.{AreSoundInbounds, IsSoundInbound}
 
 abbrev pub AreSoundFrames : List (List ClientMsg) → Type 0
-AreSoundFrames fs = AreSoundUps (map frame_up fs)
+AreSoundFrames fs = AreSoundInbounds (map inbound_frame fs)
 
 pub frames-append : (fs gs : List (List ClientMsg)) → AreSoundFrames fs → AreSoundFrames gs → AreSoundFrames (fs ++ gs)
 frames-append [] gs h k = k
@@ -127,7 +127,7 @@ events_sound (e ∷ es) h = ((h.0.json, tt), events_sound es h.1)
 
 -- what it sends: a hello, a flush, and all once more
 
-pub hello_sound : (x : Account) → IsSound x → IsSoundUp (frame_up (calls.hello_of x))
+pub hello_sound : (x : Account) → IsSound x → IsSoundInbound (inbound_frame (calls.hello_of x))
 hello_sound x h = ((h.room, tt, tt), tt)
 
 or_none : (b : Bool) (fs : List (List ClientMsg)) → AreSoundFrames fs → AreSoundFrames (cond b fs [])
@@ -153,84 +153,84 @@ resend_sound x h = or_none (Account.is_synced x.stage) (map (Account.frame_of (A
 
 -- what it answers a message
 
-abbrev Replies : Took → Type 0
+abbrev Replies : Received → Type 0
 Replies out = AreSoundFrames out.replies
 
-ok_is : (x y : Took) → ◌≡◌ {A = Result Took FrameFault} (Ok x) (Ok y) → x ≡ y
+ok_is : (x y : Received) → ◌≡◌ {A = Result Received FrameFault} (Ok x) (Ok y) → x ≡ y
 ok_is x y e = cc
 
-err_ok : (e : FrameFault) (y : Took) → ◌≡◌ {A = Result Took FrameFault} (Err e) (Ok y) → ⊥
+err_ok : (e : FrameFault) (y : Received) → ◌≡◌ {A = Result Received FrameFault} (Err e) (Ok y) → ⊥
 err_ok e y i = cc
 
-said : (x y : Took) → Replies x → ◌≡◌ {A = Result Took FrameFault} (Ok x) (Ok y) → Replies y
+said : (x y : Received) → Replies x → ◌≡◌ {A = Result Received FrameFault} (Ok x) (Ok y) → Replies y
 said x y h e = subst Replies (ok_is x y e) h
 
-once_sound : (b : Bool) (fault : FrameFault) (x y : Took) → Replies x → ◌≡◌ {A = Result Took FrameFault} (cond b (Ok x) (Err fault)) (Ok y) → Replies y
+once_sound : (b : Bool) (fault : FrameFault) (x y : Received) → Replies x → ◌≡◌ {A = Result Received FrameFault} (cond b (Ok x) (Err fault)) (Ok y) → Replies y
 once_sound true fault x y h e = said x y h e
 once_sound false fault x y h e = absurd (err_ok fault y e)
 
-module _ (x : Account) (h : IsSound x) (out : Took) (after : IsSound out.account) where
-  welcomed_sound : (a key : ℕ) (o : Option Resume) → Comes.welcomed_as x a key o ≡ Ok out → Replies out
-  welcomed_sound a key None e = said (Comes.welcomed x a key) out ((h.presence.own.sound, tt), ((tt, tt), tt)) e
-  welcomed_sound a key (Some s) e = once_sound _ (Comes.AccountFault s.actor a) (Comes.welcomed x a key) out ((h.presence.own.sound, tt), ((tt, tt), tt)) e
+module _ (x : Account) (h : IsSound x) (out : Received) (after : IsSound out.account) where
+  welcomed_sound : (a key : ℕ) (o : Option Resume) → Receive.welcomed_as x a key o ≡ Ok out → Replies out
+  welcomed_sound a key None e = said (Receive.welcomed x a key) out ((h.presence.own.sound, tt), ((tt, tt), tt)) e
+  welcomed_sound a key (Some s) e = once_sound _ (Receive.AccountFault s.actor a) (Receive.welcomed x a key) out ((h.presence.own.sound, tt), ((tt, tt), tt)) e
 
-  room_sound : (a key : ℕ) (g : Stage) → Comes.room_comes x a key g ≡ Ok out → Replies out
+  room_sound : (a key : ℕ) (g : Stage) → Receive.receive_room x a key g ≡ Ok out → Replies out
   room_sound a key Account.Dialled e = welcomed_sound a key x.session e
   room_sound a key Account.Idle e = absurd (err_ok _ out e)
   room_sound a key Account.Connected e = absurd (err_ok _ out e)
   room_sound a key Account.Synced e = absurd (err_ok _ out e)
 
   -- the batches beyond what it is told are those of the account after it
-  loaded_sound : (seq last : ℕ) (t : Nodes) → Comes.loaded x seq last t ≡ out → Replies out
+  loaded_sound : (seq last : ℕ) (t : Nodes) → Receive.loaded x seq last t ≡ out → Replies out
   loaded_sound seq last t e =
-      let fits : AreFit (Account.actor x) (Account.beyond last (Account.issued x) ++ []) = subst (λ (z : Took). AreFit (Account.actor z.account) (Account.issued z.account)) (sym e) (account_fit out.account after) in
+      let fits : AreFit (Account.actor x) (Account.beyond last (Account.issued x) ++ []) = subst (λ (z : Received). AreFit (Account.actor z.account) (Account.issued z.account)) (sym e) (account_fit out.account after) in
       subst Replies e (fit_frames (Account.actor x) (Account.beyond last (Account.issued x)) (fit_front (Account.actor x) (Account.beyond last (Account.issued x)) [] fits))
 
-  load_sound : (seq last : ℕ) (t : Nodes) (o : Option (ℕ × ℕ)) → Comes.load_at x seq last t o ≡ Ok out → Replies out
+  load_sound : (seq last : ℕ) (t : Nodes) (o : Option (ℕ × ℕ)) → Receive.load_at x seq last t o ≡ Ok out → Replies out
   load_sound seq last t (Some fault) e = absurd (err_ok _ out e)
-  load_sound seq last t None e = loaded_sound seq last t (ok_is (Comes.loaded x seq last t) out e)
+  load_sound seq last t None e = loaded_sound seq last t (ok_is (Receive.loaded x seq last t) out e)
 
-  tree_sound : (seq last : ℕ) (o : Option Nodes) → Comes.load x seq last o ≡ Ok out → Replies out
+  tree_sound : (seq last : ℕ) (o : Option Nodes) → Receive.load x seq last o ≡ Ok out → Replies out
   tree_sound seq last None e = absurd (err_ok _ out e)
-  tree_sound seq last (Some t) e = load_sound seq last t (Comes.state_fault x seq last) e
+  tree_sound seq last (Some t) e = load_sound seq last t (Receive.state_fault x seq last) e
 
-  part_sound : (seq last : ℕ) (items : List Value) (more : Bool) (o : Option (ℕ × ℕ)) → Comes.part_comes x seq last items more o ≡ Ok out → Replies out
+  part_sound : (seq last : ℕ) (items : List Value) (more : Bool) (o : Option (ℕ × ℕ)) → Receive.receive_part x seq last items more o ≡ Ok out → Replies out
   part_sound seq last items more (Some fault) e = absurd (err_ok _ out e)
-  part_sound seq last items true None e = said (Comes.keeps_part x seq last items) out tt e
+  part_sound seq last items true None e = said (Receive.keeps_part x seq last items) out tt e
   part_sound seq last items false None e = tree_sound seq last _ e
 
   state_sound : (seq last : ℕ) (items : List Value) (more : Bool) (b : Bool)
-      → ◌≡◌ {A = Result Took FrameFault} (cond (not b) (Err (Comes.Unexpected 200)) (Comes.part_comes x seq last items more (Comes.other_parts x.parts seq last))) (Ok out) → Replies out
+      → ◌≡◌ {A = Result Received FrameFault} (cond (not b) (Err (Receive.Unexpected 200)) (Receive.receive_part x seq last items more (Receive.other_parts x.parts seq last))) (Ok out) → Replies out
   state_sound seq last items more true e = part_sound seq last items more _ e
   state_sound seq last items more false e = absurd (err_ok _ out e)
 
-  told_sound : (os : List Op) (t : Nodes) (o : Result ℕ (ℕ × ℕ)) → Comes.update_told x os t o ≡ Ok out → Replies out
+  told_sound : (os : List Op) (t : Nodes) (o : Result ℕ (ℕ × ℕ)) → Receive.update_told x os t o ≡ Ok out → Replies out
   told_sound os t (Err fault) e = absurd (err_ok _ out e)
   told_sound os t (Ok told) e = said _ out tt e
 
-  on_sound : (os : List Op) (o : Option Nodes) → Comes.update_on x os o ≡ Ok out → Replies out
+  on_sound : (os : List Op) (o : Option Nodes) → Receive.update_on x os o ≡ Ok out → Replies out
   on_sound os None e = absurd (err_ok _ out e)
   on_sound os (Some t) e = told_sound os t _ e
 
-  numbered_sound : (os : List Op) (fault : FrameFault) (b : Bool) → ◌≡◌ {A = Result Took FrameFault} (cond b (Comes.update_on x os x.confirmed) (Err fault)) (Ok out) → Replies out
+  numbered_sound : (os : List Op) (fault : FrameFault) (b : Bool) → ◌≡◌ {A = Result Received FrameFault} (cond b (Receive.update_on x os x.confirmed) (Err fault)) (Ok out) → Replies out
   numbered_sound os fault true e = on_sound os x.confirmed e
   numbered_sound os fault false e = absurd (err_ok fault out e)
 
-  synced_sound : (seq : ℕ) (os : List Op) (ps : List Part) → Comes.update_synced x seq os ps ≡ Ok out → Replies out
+  synced_sound : (seq : ℕ) (os : List Op) (ps : List Part) → Receive.update_synced x seq os ps ≡ Ok out → Replies out
   synced_sound seq os [] e = numbered_sound os _ _ e
   synced_sound seq os (p ∷ ps) e = absurd (err_ok _ out e)
 
-  update_sound : (seq : ℕ) (os : List Op) (g : Stage) → Comes.update_comes x seq os g ≡ Ok out → Replies out
+  update_sound : (seq : ℕ) (os : List Op) (g : Stage) → Receive.receive_update x seq os g ≡ Ok out → Replies out
   update_sound seq os Account.Synced e = synced_sound seq os x.parts e
   update_sound seq os Account.Idle e = absurd (err_ok _ out e)
   update_sound seq os Account.Dialled e = absurd (err_ok _ out e)
   update_sound seq os Account.Connected e = absurd (err_ok _ out e)
 
-  pub replies_sound : (m : ServerMsg) → Comes.comes x m ≡ Ok out → AreSoundFrames out.replies
-  replies_sound (server.Presence a target patch) e = once_sound _ _ (Comes.took (Comes.presence_taken x a target patch)) out tt e
-  replies_sound (server.Joined a) e = once_sound _ _ (Comes.replying (Comes.forgets x a) (Account.frame_of_full_to a x.me ∷ [])) out ((h.presence.own.sound, tt), tt) e
-  replies_sound (server.Left a) e = once_sound _ _ (Comes.took (Comes.forgets x a)) out tt e
-  replies_sound (server.Broadcast a f) e = once_sound _ _ (record (Comes.took x) { events = (a, f) ∷ [] }) out tt e
+  pub replies_sound : (m : ServerMsg) → Receive.receive x m ≡ Ok out → AreSoundFrames out.replies
+  replies_sound (server.Presence a target patch) e = once_sound _ _ (Receive.received (Receive.presence_taken x a target patch)) out tt e
+  replies_sound (server.Joined a) e = once_sound _ _ (Receive.replying (Receive.forgets x a) (Account.frame_of_full_to a x.me ∷ [])) out ((h.presence.own.sound, tt), tt) e
+  replies_sound (server.Left a) e = once_sound _ _ (Receive.received (Receive.forgets x a)) out tt e
+  replies_sound (server.Broadcast a f) e = once_sound _ _ (record (Receive.received x) { events = (a, f) ∷ [] }) out tt e
   replies_sound (server.RoomState a key users) e = room_sound a key x.stage e
   replies_sound (server.State seq last items more) e = state_sound seq last items more (Account.is_on x.stage) e
   replies_sound (server.Update seq os) e = update_sound seq os x.stage e

@@ -32,14 +32,15 @@ use Rattle.room_log.specs.Laws.{TakenFollows, ValidAfter}
 use Rattle.room_log.proofs.Following.{Decides-le, follows_exactly}
 use Rattle.room_log.proofs.NextTaken.{taken_follows}
 use Rattle.room_log.proofs.ValidStates.{valid_after}
-use Rattle.room_model.specs.Access.{Decision, may_do, refusal_text}
+use Rattle.room_model.specs.Access.{Decision, barred, refusal_text}
 use Rattle.room_model.specs.Server
-use Rattle.room_model.specs.Server.{Down, Pong, Message, Closed, Up, Link, Served}
+use Rattle.room_model.specs.Server.{Outbound, Pong, Message, Closed, Inbound, Link, Served}
 use Rattle.room_model.specs.Sound.{AreItems}
 use Rattle.room_model.specs.World.{entries_in}
-use Rattle.room_laws.specs.Validity.{AreValidClientMsgs, IsActorOf, IsValidClientMsg, IsSoundDown, IsSoundLink, IsSoundServer, IsSoundUp, ItemsOfValid}
+use Rattle.room_laws.specs.Validity.{AreValidClientMsgs, IsActorOf, IsValidClientMsg, IsSoundOutbound, IsSoundLink, IsSoundServer, IsSoundInbound, ItemsOfValid}
 use Rattle.room_laws.proofs.SoundMaps.{Each, each_put, each_out, each_without}
 use Rattle.room_laws.proofs.SoundSends.{ops_fit}
+use Rattle.room_laws.proofs.Acting.{act_from, taken_from, taken_is}
 
 keeps : ValidAfter
 keeps = valid_after keeps_sound keeps_shallow
@@ -91,15 +92,15 @@ length-with ss (suc i) c = length-at ss i c (slice_get ss i)
 
 -- what is sent
 
-abbrev pub AreSoundOuts : List (ℕ × Down) → Type 0
+abbrev pub AreSoundOuts : List (ℕ × Outbound) → Type 0
 AreSoundOuts [] = ⊤
-AreSoundOuts (o ∷ os) = IsSoundDown o.1 × AreSoundOuts os
+AreSoundOuts (o ∷ os) = IsSoundOutbound o.1 × AreSoundOuts os
 
-outs-append : (os ps : List (ℕ × Down)) → AreSoundOuts os → AreSoundOuts ps → AreSoundOuts (os ++ ps)
+outs-append : (os ps : List (ℕ × Outbound)) → AreSoundOuts os → AreSoundOuts ps → AreSoundOuts (os ++ ps)
 outs-append [] ps h k = k
 outs-append (o ∷ os) ps h k = (h.0, outs-append os ps h.1 k)
 
-to_each_sound : (p : Link → Bool) (m : Down) (es : List (ℕ × Link)) → IsSoundDown m → AreSoundOuts (Server.to_each p m es)
+to_each_sound : (p : Link → Bool) (m : Outbound) (es : List (ℕ × Link)) → IsSoundOutbound m → AreSoundOuts (Server.to_each p m es)
 to_each_sound p m [] h = tt
 to_each_sound p m (e ∷ es) h = by_test (p e.1) (to_each_sound p m es h)
   where
@@ -107,7 +108,7 @@ to_each_sound p m (e ∷ es) h = by_test (p e.1) (to_each_sound p m es h)
     by_test true k = (h, k)
     by_test false k = k
 
-to_others_sound : (ls : FinMap nat_cmp Link) (k : ℕ) (m : ServerMsg) → IsSoundDown (Message m) → AreSoundOuts (Server.to_others ls k m)
+to_others_sound : (ls : FinMap nat_cmp Link) (k : ℕ) (m : ServerMsg) → IsSoundOutbound (Message m) → AreSoundOuts (Server.to_others ls k m)
 to_others_sound ls k m h = to_each_sound Server.has_session (Message m) (entries (remove ls k)) h
 
 left_sound : (ls : FinMap nat_cmp Link) (k n : ℕ) (o : Option ℕ) → n ≤ most_actor → IsActorOf n o → AreSoundOuts (Server.left_to ls k o)
@@ -215,7 +216,7 @@ module _ (v : Server.Server) (h : IsSoundServer v) where
   abbrev IsLink : Link → Type 0
   IsLink = IsSoundLink (length v.state.sessions)
 
-  quiet : (outs : List (ℕ × Down)) → AreSoundOuts outs → Calm v (Server.served v outs)
+  quiet : (outs : List (ℕ × Outbound)) → AreSoundOuts outs → Calm v (Server.served v outs)
   quiet outs i = record { server = h; outs = i; none = refl; state = refl }
 
   linked : (ls : FinMap nat_cmp Link) → Each IsLink ls → IsSoundServer (Server.with_links v ls)
@@ -296,7 +297,11 @@ module _ (v : Server.Server) (h : IsSoundServer v) where
     admitted_goes hello (Some r) d name g = calm_goes v _ (resumes k l r d g.0 i g.1 g.2)
 
     admit_goes : (hello : Hello) (d : Option Decision) → IsTextIfThere hello.name → Greeted hello.resume → Goes v (Server.admit v k l hello d)
-    admit_goes hello d name g = or_shut (may_do d (client.Hello hello ∷ [])) 4403 (refusal_text d) (Server.admitted v k l hello hello.resume d) (λ e. admitted_goes hello hello.resume d name g)
+    admit_goes hello d name g = unless (barred d (client.Hello hello ∷ []))
+      where
+        unless : (bar : Option Decision) → Goes v (Server.admit_unless v k l hello d bar)
+        unless None = admitted_goes hello hello.resume d name g
+        unless (Some bar) = calm_goes v _ (shuts k l i 4403 (refusal_text bar))
 
     key_is : (key : ℕ) (x : Session) → ((x.key == key) && not (key == 0)) ≡ true → x.key ≡ key
     key_is key x e = eqb-true x.key key (left (x.key == key) (not (key == 0)) e)
@@ -392,14 +397,14 @@ module _ (items : ItemsOfValid) (k a : ℕ) (low : a ≤ most_actor) where
   none_after client.Fetch = refl
   none_after (client.Update os) = refl
 
-  talks : (v : Server.Server) (x : Served) (ms : List ClientMsg) → Goes v x → AreValidClientMsgs ms → Goes v (Server.act_all x k a None ms)
+  talks : (v : Server.Server) (x : Served) (ms : List ClientMsg) → Goes v x → AreValidClientMsgs ms → Goes v (act_from x k a None ms)
   talks v x [] g i = g
   talks v x (m ∷ ms) g i =
       let next = Server.then_served x (Server.acts x.server k a None m) in
-      subst (λ o. Goes v (Server.act_all next k a o ms)) (sym (none_after m)) (talks v next ms (then_calm v x (Server.acts x.server k a None m) g (acts_calm x.server m g.server i.0)) i.1)
+      subst (λ o. Goes v (act_from next k a o ms)) (sym (none_after m)) (talks v next ms (then_calm v x (Server.acts x.server k a None m) g (acts_calm x.server m g.server i.0)) i.1)
 
   module _ (v : Server.Server) (u : Update) (n : IsNext v.state (Updated u)) where
-    waits : (x : Served) (ms : List ClientMsg) → Calm v x → AreValidClientMsgs ms → Goes v (Server.act_all x k a (Some u) ms)
+    waits : (x : Served) (ms : List ClientMsg) → Calm v x → AreValidClientMsgs ms → Goes v (act_from x k a (Some u) ms)
     waits x [] c i = calm_goes v x c
     waits x (client.Update os ∷ ms) c i =
         let done = commits x.server u c.server (subst (λ s. IsNext s (Updated u)) (sym c.state) n) in
@@ -441,17 +446,21 @@ module _ (items : ItemsOfValid) (v : Server.Server) (h : IsSoundServer v) (k : �
     room_for : nat_le v.limits.updates v.state.count ≡ false → v.state.count + 1 ≤ most
     room_for e = grind (arith, nat_tests, e, h.limits.updates)
 
-    taken_goes : (t : Taken) → take v.state a (Server.all_ops_in ms) ≡ t → Goes v (Server.taken v k l a ms t)
+    taken_goes : (t : Taken) → take v.state a (Server.all_ops_in ms) ≡ t → Goes v (taken_from v k l a ms t)
     taken_goes Nothing e = talks items k a low v (Server.nothing v) ms (calm_goes v _ nothing) sound
     taken_goes (Gap expected got) e = calm_goes v _ (shuts v h k l i 4402 (Server.expected_got (codes "clock gap") expected got))
-    taken_goes (Takes u) e = by_shut v h k l i (nat_le v.limits.updates v.state.count) 4406 (codes "room full " ++ decimal v.state.count) (Server.act_all (Server.nothing v) k a (Some u) ms) (λ full.
+    taken_goes (Takes u) e = by_shut v h k l i (nat_le v.limits.updates v.state.count) 4406 (codes "room full " ++ decimal v.state.count) (act_from (Server.nothing v) k a (Some u) ms) (λ full.
         let x = slice_there v.state.sessions a in_list.0 in_list.1 in
         let ops = all_ops_sound ms sound in
         waits items k a low v u (follows_taken v.state a (Server.all_ops_in ms) u x.0 h.state x.1 ops.0 ops.1 e (room_for full)) (Server.nothing v) ms nothing sound)
 
     owned_goes : (o : Option ℕ) → Goes v (Server.owned v k l a ms o)
     owned_goes (Some got) = calm_goes v _ (shuts v h k l i 4404 (Server.expected_got (codes "foreign actor") a got))
-    owned_goes None = or_shut v h k l i (may_do l.decision ms) 4403 (refusal_text l.decision) (Server.taken v k l a ms (take v.state a (Server.all_ops_in ms))) (λ e. taken_goes (take v.state a (Server.all_ops_in ms)) refl)
+    owned_goes None = unless (barred l.decision ms)
+      where
+        unless : (bar : Option Decision) → Goes v (Server.permitted_unless v k l a ms bar)
+        unless None = subst (Goes v) (sym (taken_is v k l a ms (take v.state a (Server.all_ops_in ms)))) (taken_goes (take v.state a (Server.all_ops_in ms)) refl)
+        unless (Some bar) = calm_goes v _ (shuts v h k l i 4403 (refusal_text bar))
 
     session_goes : Goes v (Server.session_frame v k l a ms)
     session_goes = by_shut v h k l i (Server.has_hello ms) 4400 (codes "bad frame " ++ Server.reason_text reason.Hello) (Server.owned v k l a ms (Server.foreign_in a (Server.all_ops_in ms))) (λ e. owned_goes (Server.foreign_in a (Server.all_ops_in ms)))
@@ -460,17 +469,17 @@ module _ (items : ItemsOfValid) (v : Server.Server) (h : IsSoundServer v) (k : �
   messages_goes l ms None i at sound = hello_goes v h k l i (Server.only_hello ms) (only_sound v h k l i ms sound)
   messages_goes l ms (Some a) i at sound = session_goes l i a at ms sound
 
-  frame_goes : (l : Link) (u : Up) → IsSoundLink (length v.state.sessions) l → IsSoundUp u → Goes v (Server.frame_at v k l u)
+  frame_goes : (l : Link) (u : Inbound) → IsSoundLink (length v.state.sessions) l → IsSoundInbound u → Goes v (Server.frame_at v k l u)
   frame_goes l (Err r) i s = calm_goes v _ (shuts v h k l i 4400 (codes "bad frame " ++ Server.reason_text r))
   frame_goes l (Ok frame.Ping) i s = calm_goes v _ (quiet v h ((k, Pong) ∷ []) (tt, tt))
   frame_goes l (Ok (frame.Msgs ms)) i s = messages_goes l ms l.actor i i.actor s
 
-  serves : (u : Up) (o : Option Link) → get v.links k ≡ o → IsSoundUp u → Goes v (Server.serve_from v k u o)
+  serves : (u : Inbound) (o : Option Link) → get v.links k ≡ o → IsSoundInbound u → Goes v (Server.serve_from v k u o)
   serves u None e s = calm_goes v _ (quiet v h [] tt)
   serves u (Some l) e s = frame_goes l u (h.links k l e) s
 
   -- what it does with a frame, and once a connection is gone
-  pub serve_goes : (u : Up) → IsSoundUp u → Goes v (Server.serve v k u)
+  pub serve_goes : (u : Inbound) → IsSoundInbound u → Goes v (Server.serve v k u)
   serve_goes u s = serves u (get v.links k) refl s
 
   pub gone_is : Calm v (Server.gone v k)

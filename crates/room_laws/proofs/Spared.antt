@@ -16,7 +16,7 @@ use Rattle.room_msg.specs.declared.messages.ClientFrame.TheVariants as frame
 use Rattle.room_log.specs.Log.{State, Update, last_of, ops_of}
 use Rattle.room_log.specs.Take.{Taken, Nothing, Takes, take}
 use Rattle.room_model.specs.Server
-use Rattle.room_model.specs.Server.{Down, Pong, Message, Closed, Link, Up, Served}
+use Rattle.room_model.specs.Server.{Outbound, Pong, Message, Closed, Link, Inbound, Served}
 use Rattle.room_model.specs.World.{Conn, Running, state_in, room}
 use Rattle.room_model.specs.Run.{Run, run, opened, IsUndisturbed}
 use Rattle.room_laws.specs.Laws.{spares, spares_all, EachServed}
@@ -25,10 +25,11 @@ use Rattle.room_laws.specs.Queues.{InOrder}
 use Rattle.room_laws.specs.Invariant
 use Rattle.room_laws.proofs.Popped.{IsTalk}
 use Rattle.room_laws.proofs.Frames.{joins, resumes, talks}
-use Rattle.room_laws.proofs.Serves.{ups_of}
+use Rattle.room_laws.proofs.Serves.{inbounds_of}
 use Rattle.room_laws.proofs.OwnFrames.{serve_takes, outcome_of}
 use Rattle.room_laws.proofs.Whole.{stands}
 use Rattle.room_laws.proofs.Facts.{none_some, both}
+use Rattle.room_laws.proofs.Acting.{act_from, taken_from}
 
 -- lists of sends
 
@@ -36,15 +37,15 @@ split : (x y : Bool) → (x && y) ≡ true → (x ≡ true) × (y ≡ true)
 split true y e = (refl, e)
 split false y e = cc
 
-spared_append : (a b : List (ℕ × Down)) → spares_all a ≡ true → spares_all b ≡ true → spares_all (a ++ b) ≡ true
+spared_append : (a b : List (ℕ × Outbound)) → spares_all a ≡ true → spares_all b ≡ true → spares_all (a ++ b) ≡ true
 spared_append [] b e f = f
 spared_append (o ∷ os) b e f = let h = split (spares o.1) (spares_all os) e in both (spares o.1) (spares_all (os ++ b)) h.0 (spared_append os b h.1 f)
 
-spared_cond : (b : Bool) (x y : List (ℕ × Down)) → spares_all x ≡ true → spares_all y ≡ true → spares_all (cond b x y) ≡ true
+spared_cond : (b : Bool) (x y : List (ℕ × Outbound)) → spares_all x ≡ true → spares_all y ≡ true → spares_all (cond b x y) ≡ true
 spared_cond true x y e f = e
 spared_cond false x y e f = f
 
-spared_each : (p : Link → Bool) (m : Down) (es : List (ℕ × Link)) → spares m ≡ true → spares_all (Server.to_each p m es) ≡ true
+spared_each : (p : Link → Bool) (m : Outbound) (es : List (ℕ × Link)) → spares m ≡ true → spares_all (Server.to_each p m es) ≡ true
 spared_each p m [] e = refl
 spared_each p m (x ∷ es) e = let h = spared_each p m es e in
     spared_cond (p x.1) ((x.0, m) ∷ Server.to_each p m es) (Server.to_each p m es) (both (spares m) (spares_all (Server.to_each p m es)) e h) h
@@ -71,7 +72,7 @@ spared_act v k a o client.Fetch = spared_parts k v.state.count (last_of v.state.
 spared_act v k a None (client.Update os) = refl
 spared_act v k a (Some n) (client.Update os) = spared_each Server.has_fetched (Message (server.Update (v.state.count + 1) (ops_of n))) (entries v.links) refl
 
-spared_all : (k a : ℕ) (ms : List ClientMsg) (sv : Served) (o : Option Update) → spares_all sv.outs ≡ true → spares_all (Server.act_all sv k a o ms).outs ≡ true
+spared_all : (k a : ℕ) (ms : List ClientMsg) (sv : Served) (o : Option Update) → spares_all sv.outs ≡ true → spares_all (act_from sv k a o ms).outs ≡ true
 spared_all k a [] sv o e = e
 spared_all k a (m ∷ ms) sv o e = spared_all k a ms (Server.then_served sv (Server.acts sv.server k a o m)) (Server.waits_after o m) (spared_append sv.outs (Server.acts sv.server k a o m).outs e (spared_act sv.server k a o m))
 
@@ -96,10 +97,10 @@ spared_resumed v k l z = spared_append (Server.to_each (Server.holds z.actor) Se
 no_zero : (n : ℕ) → 0 < n → (n == 0) ≡ false
 no_zero n h = grind (arith, nat_tests)
 
-head_is : (u x : Up) (us y : List Up) → u ∷ us ≡ x ∷ y → u ≡ x
+head_is : (u x : Inbound) (us y : List Inbound) → u ∷ us ≡ x ∷ y → u ≡ x
 head_is u x us y e = cc
 
-module _ (s : State) (r : Run) (v : Server.Server) (k : ℕ) (q : Conn) (u : Up) (us : List Up) (st : Invariant.Inv s r) (there : get r.world.conns k ≡ Some q) (first : q.up ≡ u ∷ us) (runs : r.world.host ≡ Running v)
+module _ (s : State) (r : Run) (v : Server.Server) (k : ℕ) (q : Conn) (u : Inbound) (us : List Inbound) (st : Invariant.Inv s r) (there : get r.world.conns k ≡ Some q) (first : q.inbound ≡ u ∷ us) (runs : r.world.host ≡ Running v)
     (l : Link) (attached : get v.links k ≡ Some l) (c : ℕ) (owner : (Invariant.conn r.world k).owner ≡ Some c) (calm : IsUndisturbed r c) where
   abbrev Spared : Served → Type 0
   Spared out = spares_all out.outs ≡ true
@@ -116,14 +117,14 @@ module _ (s : State) (r : Run) (v : Server.Server) (k : ℕ) (q : Conn) (u : Up)
   free_of : Invariant.Hosts (Running v) → l.decision ≡ None
   free_of h = (h.free k l attached).0
 
-  hello_spared : (e : l.actor ≡ None) (x : Option Resume) → (ups_of s r v k q u us st there first runs l attached c None e owner calm).resume ≡ x → Spared (Server.serve v k u)
+  hello_spared : (e : l.actor ≡ None) (x : Option Resume) → (inbounds_of s r v k q u us st there first runs l attached c None e owner calm).resume ≡ x → Spared (Server.serve v k u)
   hello_spared e None f =
-      let h = ups_of s r v k q u us st there first runs l attached c None e owner calm in
+      let h = inbounds_of s r v k q u us st there first runs l attached c None e owner calm in
       let is : u ≡ Invariant.hello_frame None = head_is u (Invariant.hello_frame h.resume) us [] h.is ∙ ap Invariant.hello_frame f in
       subst Spared (sym (ap (Server.serve v k) is ∙ joins v k l attached e (room_of hosts) (access_of hosts)))
       (spared_full (nat_le v.limits.sessions (length v.state.sessions)) v k l (codes "sessions full " ++ decimal (length v.state.sessions)) (Server.join v k l (hello_of None) None) (spared_join v k l (hello_of None)))
   hello_spared e (Some z) f =
-      let h = ups_of s r v k q u us st there first runs l attached c None e owner calm in
+      let h = inbounds_of s r v k q u us st there first runs l attached c None e owner calm in
       let is : u ≡ Invariant.hello_frame (Some z) = head_is u (Invariant.hello_frame h.resume) us [] h.is ∙ ap Invariant.hello_frame f in
       let session : (Invariant.core_of r.world c).session ≡ Some z = ⊎_elim (λ n. absurd (none_some z (sym n ∙ f))) (λ n. sym n ∙ f) h.old in
       let stands = subst (λ (y : State). Invariant.Stands s y.sessions z) (ap state_in runs) (subst (λ (y : Option Resume). Invariant.StandsIn s (Invariant.sessions r) y) session (st.client c calm).stands) in
@@ -134,16 +135,16 @@ module _ (s : State) (r : Run) (v : Server.Server) (k : ℕ) (q : Conn) (u : Up)
     talk_spared : (m : ClientMsg) → IsTalk m → u ≡ Ok (frame.Msgs (m ∷ [])) → Spared (Server.serve v k u)
     talk_spared m i e = subst Spared (sym (ap (Server.serve v k) e ∙ talks v k a l m i attached named (free_of hosts))) (spared_act v k a None m)
 
-    taken_spared : (os : List Op) (t : Taken) → take v.state a os ≡ t → (t ≡ Nothing) ⊎ ((n : Update) × (t ≡ Takes n)) → Spared (Server.taken v k l a (client.Update os ∷ []) t)
+    taken_spared : (os : List Op) (t : Taken) → take v.state a os ≡ t → (t ≡ Nothing) ⊎ ((n : Update) × (t ≡ Takes n)) → Spared (taken_from v k l a (client.Update os ∷ []) t)
     taken_spared os t e (inl f) = rw f (spared_all k a (client.Update os ∷ []) (Server.nothing v) None refl)
-    taken_spared os t e (inr f) = rw f.1 (spared_full (nat_le v.limits.updates v.state.count) v k l (codes "room full " ++ decimal v.state.count) (Server.act_all (Server.nothing v) k a (Some f.0) (client.Update os ∷ []))
+    taken_spared os t e (inr f) = rw f.1 (spared_full (nat_le v.limits.updates v.state.count) v k l (codes "room full " ++ decimal v.state.count) (act_from (Server.nothing v) k a (Some f.0) (client.Update os ∷ []))
         (spared_all k a (client.Update os ∷ []) (Server.nothing v) (Some f.0) refl))
 
     ops_spared : (os : List Op) → u ≡ Ok (frame.Msgs (client.Update os ∷ [])) → Spared (Server.serve v k u)
     ops_spared os e = subst Spared (sym (serve_takes s r v k q u us st there first runs l attached a named os e c owner calm))
         (taken_spared os (take v.state a os) refl (⊎_elim (λ g. inl g.0) (λ g. inr (_, g.takes)) (outcome_of s r v k q u us st there first runs l attached a named os e c owner calm (st.client c calm)).outcome))
 
-    by_head : (y : Up) (reach : ℕ) → u ≡ y → InOrder a (actor (Invariant.core_of r.world c)) (Invariant.issued_by r c) (last_of (Invariant.sessions r) (actor (Invariant.core_of r.world c))) (y ∷ us) reach → Spared (Server.serve v k u)
+    by_head : (y : Inbound) (reach : ℕ) → u ≡ y → InOrder a (actor (Invariant.core_of r.world c)) (Invariant.issued_by r c) (last_of (Invariant.sessions r) (actor (Invariant.core_of r.world c))) (y ∷ us) reach → Spared (Server.serve v k u)
     by_head (Err x) reach e h = absurd h
     by_head (Ok frame.Ping) reach e h = absurd h
     by_head (Ok (frame.Msgs [])) reach e h = absurd h
@@ -155,15 +156,15 @@ module _ (s : State) (r : Run) (v : Server.Server) (k : ℕ) (q : Conn) (u : Up)
     by_head (Ok (frame.Msgs (client.Update os ∷ []))) reach e h = ops_spared os e
 
     frame_spared : Spared (Server.serve v k u)
-    frame_spared = let h = ups_of s r v k q u us st there first runs l attached c (Some a) named owner calm in by_head u h.reach refl h.order
+    frame_spared = let h = inbounds_of s r v k q u us st there first runs l attached c (Some a) named owner calm in by_head u h.reach refl h.order
 
   by_actor : (a : Option ℕ) → l.actor ≡ a → Spared (Server.serve v k u)
-  by_actor None e = hello_spared e (ups_of s r v k q u us st there first runs l attached c None e owner calm).resume refl
+  by_actor None e = hello_spared e (inbounds_of s r v k q u us st there first runs l attached c None e owner calm).resume refl
   by_actor (Some a) e = frame_spared a e
 
-module _ (s : State) (r : Run) (v : Server.Server) (k c : ℕ) (u : Up) (us : List Up) (st : Invariant.Inv s r) (runs : r.world.host ≡ Running v)
+module _ (s : State) (r : Run) (v : Server.Server) (k c : ℕ) (u : Inbound) (us : List Inbound) (st : Invariant.Inv s r) (runs : r.world.host ≡ Running v)
     (owner : (Invariant.conn r.world k).owner ≡ Some c) (calm : IsUndisturbed r c) where
-  by_conn : (o : Option Conn) → get r.world.conns k ≡ o → (Invariant.conn_in o).up ≡ u ∷ us → (p : Option Link) → get v.links k ≡ p → spares_all (Server.serve_from v k u p).outs ≡ true
+  by_conn : (o : Option Conn) → get r.world.conns k ≡ o → (Invariant.conn_in o).inbound ≡ u ∷ us → (p : Option Link) → get v.links k ≡ p → spares_all (Server.serve_from v k u p).outs ≡ true
   by_conn None e f p i = absurd (no_cons f)
     where
       no_cons : [] ≡ u ∷ us → ⊥
@@ -171,7 +172,7 @@ module _ (s : State) (r : Run) (v : Server.Server) (k c : ℕ) (u : Up) (us : Li
   by_conn (Some q) e f None i = refl
   by_conn (Some q) e f (Some l) i = subst (λ (z : Option Link). spares_all (Server.serve_from v k u z).outs ≡ true) i (by_actor s r v k q u us st e f runs l i c owner calm l.actor refl)
 
-  pub served : (Invariant.conn r.world k).up ≡ u ∷ us → spares_all (Server.serve v k u).outs ≡ true
+  pub served : (Invariant.conn r.world k).inbound ≡ u ∷ us → spares_all (Server.serve v k u).outs ≡ true
   served f = by_conn (get r.world.conns k) refl f (get v.links k) refl
 
 pub each_served : EachServed

@@ -10,8 +10,8 @@ use Rattle.room_log.specs.Log.{State, Session, Update, last_of}
 use Rattle.room_model.specs.Account.{Account, Batch, Stage, Idle, Dialled, Connected, Synced, actor_in, frame_of, frame_of_event}
 use Rattle.room_model.specs.Presence.{unsent_members}
 use Rattle.room_model.specs.Calls.{flushed, flush_frames, resent, resend_frames, patch_frames, held}
-use Rattle.room_model.specs.Server.{Down, Link, Up}
-use Rattle.room_model.specs.World.{frame_up}
+use Rattle.room_model.specs.Server.{Outbound, Link, Inbound}
+use Rattle.room_model.specs.World.{inbound_frame}
 use Rattle.room_laws.specs.Ledger.{upto}
 use Rattle.room_laws.specs.Core.{Core, core, issued, actor}
 use Rattle.room_laws.specs.Queues.{Place, IsOn, InOrder}
@@ -19,7 +19,7 @@ use Rattle.room_laws.specs.Invariant
 use Rattle.room_laws.proofs.Batches.{upto-append, Runs-back}
 use Rattle.room_laws.proofs.Queues.{order_append, order_above, frames}
 use Rattle.room_laws.proofs.Owns.{sent_all, own_sent, told_is, rest_is}
-use Rattle.room_laws.proofs.Cuts.{ups_idle}
+use Rattle.room_laws.proofs.Cuts.{inbounds_idle}
 use Rattle.room_laws.proofs.Sends.{Turned}
 
 -- what a flush and a resend leave, by stage
@@ -72,32 +72,32 @@ resend_said a Synced e = rw e refl
 
 -- no operations in them
 
-patch_order : (b a : ℕ) (all : List Batch) (c : ℕ) (fs : List (List ℕ × Value)) → InOrder b a all c (map frame_up (patch_frames fs)) c
+patch_order : (b a : ℕ) (all : List Batch) (c : ℕ) (fs : List (List ℕ × Value)) → InOrder b a all c (map inbound_frame (patch_frames fs)) c
 patch_order b a all c [] = refl
 patch_order b a all c (f ∷ fs) = refl
 
-events_order : (b a : ℕ) (all : List Batch) (c : ℕ) (es : List Json) → InOrder b a all c (map frame_up (map frame_of_event es)) c
+events_order : (b a : ℕ) (all : List Batch) (c : ℕ) (es : List Json) → InOrder b a all c (map inbound_frame (map frame_of_event es)) c
 events_order b a all c [] = refl
 events_order b a all c (e ∷ es) = events_order b a all c es
 
-pub said_order : (b a : ℕ) (all : List Batch) (c : ℕ) (x : Account) → InOrder b a all c (map frame_up (said x)) c
-said_order b a all c x = subst (λ (us : List Up). InOrder b a all c us c) (sym (map-append frame_up (patch_frames (unsent_members x.unsent (held x) x.me)) (map frame_of_event x.events)))
-    (order_append b a all c (map frame_up (patch_frames (unsent_members x.unsent (held x) x.me))) (map frame_up (map frame_of_event x.events)) c c
+pub said_order : (b a : ℕ) (all : List Batch) (c : ℕ) (x : Account) → InOrder b a all c (map inbound_frame (said x)) c
+said_order b a all c x = subst (λ (us : List Inbound). InOrder b a all c us c) (sym (map-append inbound_frame (patch_frames (unsent_members x.unsent (held x) x.me)) (map frame_of_event x.events)))
+    (order_append b a all c (map inbound_frame (patch_frames (unsent_members x.unsent (held x) x.me))) (map inbound_frame (map frame_of_event x.events)) c c
     (patch_order b a all c (unsent_members x.unsent (held x) x.me)) (events_order b a all c x.events))
 
 -- Frames that may go up behind what waits: after them all that was tried to send waits, or is in the log
-pub record Reaches (a : ℕ) (all : List Batch) (c : ℕ) (us : List Up) (tried : ℕ) : Type 0 where
+pub record Reaches (a : ℕ) (all : List Batch) (c : ℕ) (us : List Inbound) (tried : ℕ) : Type 0 where
   pub end : ℕ
   pub order : InOrder a a all c us end
   pub sent : tried ≤ end
 
-abbrev pub Sendable : ℕ → List Batch → ℕ → ℕ → List Up → ℕ → Type 0
+abbrev pub Sendable : ℕ → List Batch → ℕ → ℕ → List Inbound → ℕ → Type 0
 Sendable a all last tried us tried' = (reach : ℕ) → last ≤ reach → tried ≤ reach → Reaches a all reach us tried'
 
-pub send_said : (a : ℕ) (all : List Batch) (last tried : ℕ) (x : Account) → Sendable a all last tried (map frame_up (said x)) tried
+pub send_said : (a : ℕ) (all : List Batch) (last tried : ℕ) (x : Account) → Sendable a all last tried (map inbound_frame (said x)) tried
 send_said a all last tried x reach l m = record { end = reach; order = said_order a a all reach x; sent = m }
 
-pub send_append : (a : ℕ) (all : List Batch) (last tried mid end : ℕ) (us vs : List Up) → Sendable a all last tried us mid → Sendable a all last mid vs end → Sendable a all last tried (us ++ vs) end
+pub send_append : (a : ℕ) (all : List Batch) (last tried mid end : ℕ) (us vs : List Inbound) → Sendable a all last tried us mid → Sendable a all last mid vs end → Sendable a all last tried (us ++ vs) end
 send_append a all last tried mid end us vs f g reach l m =
     let p = f reach l m in
     let o = order_above a a all reach us p.end p.order in
@@ -105,7 +105,7 @@ send_append a all last tried mid end us vs f g reach l m =
     record { end = q.end; order = order_append a a all reach us vs p.end q.end p.order q.order; sent = q.sent }
 
 module _ (s : State) (us : List Update) (last : ℕ) (x : Core) (all : List Batch) (done coming : List Update) (h : Invariant.Own s us last x all done coming) where
-  pub send_fresh : Sendable (actor x) all last (Invariant.tried x) (map frame_up (map (frame_of (actor x)) x.fresh)) (Invariant.tried (sent_all x))
+  pub send_fresh : Sendable (actor x) all last (Invariant.tried x) (map inbound_frame (map (frame_of (actor x)) x.fresh)) (Invariant.tried (sent_all x))
   send_fresh reach l m =
       let t = told_is s us last x all done coming h in
       let c = Runs-back x.told x.sent x.fresh t.chain in
@@ -116,7 +116,7 @@ module _ (s : State) (us : List Update) (last : ℕ) (x : Core) (all : List Batc
         sent = omega arith;
       }
 
-  pub send_issued : Sendable (actor x) all last (Invariant.tried x) (map frame_up (map (frame_of (actor x)) (issued x))) (Invariant.tried (sent_all x))
+  pub send_issued : Sendable (actor x) all last (Invariant.tried x) (map inbound_frame (map (frame_of (actor x)) (issued x))) (Invariant.tried (sent_all x))
   send_issued reach l m =
       let t = told_is s us last x all done coming h in
       let f = rest_is s us last x all done coming h in
@@ -127,7 +127,7 @@ module _ (s : State) (us : List Update) (last : ℕ) (x : Core) (all : List Batc
       }
 
 -- a client that is on holds the session of its connection
-pub on_actor : (s : State) (us : List Update) (ss : List Session) (given : List (ℕ × Option ℕ)) (c : ℕ) (w : Option Resume) (here : Place) (q : List Down) (l : Option Link) (m : Link)
+pub on_actor : (s : State) (us : List Update) (ss : List Session) (given : List (ℕ × Option ℕ)) (c : ℕ) (w : Option Resume) (here : Place) (q : List Outbound) (l : Option Link) (m : Link)
     → Invariant.Present s us ss given c w here q l → IsOn here.stage → l ≡ Some m → m.actor ≡ Some (actor_in w)
 on_actor s us ss given c w here q l m p on e = at (subst (λ (o : Option Link). Invariant.Linked p.who here.stage q p.end o) e p.linked)
   where
@@ -136,11 +136,11 @@ on_actor s us ss given c w here q l m p on e = at (subst (λ (o : Option Link). 
     at (inr k) = k.actor ∙ ap (λ (o : Option Resume). Some (actor_in o)) (sym ((p.known on).0 ∙ k.some))
 
 -- frames go behind what waits up
-pub ups_send : (now : Type 0) (w : Option Resume) (tried tried' : ℕ) (all : List Batch) (last : ℕ) (l : Option Link) (q us : List Up) → now
+pub inbounds_send : (now : Type 0) (w : Option Resume) (tried tried' : ℕ) (all : List Batch) (last : ℕ) (l : Option Link) (q us : List Inbound) → now
     → ((m : Link) → l ≡ Some m → m.actor ≡ Some (actor_in w)) → Sendable (actor_in w) all last tried us tried'
-    → Invariant.Ups now w tried all last l q → Invariant.Ups now w tried' all last l (cond (is_some l) (q ++ us) q)
-ups_send now w tried tried' all last None q us n f g h = h
-ups_send now w tried tried' all last (Some m) q us n f g h = at m.actor (f m refl) h
+    → Invariant.Inbounds now w tried all last l q → Invariant.Inbounds now w tried' all last l (cond (is_some l) (q ++ us) q)
+inbounds_send now w tried tried' all last None q us n f g h = h
+inbounds_send now w tried tried' all last (Some m) q us n f g h = at m.actor (f m refl) h
   where
     some_is : (a b : ℕ) → Some a ≡ Some b → a ≡ b
     some_is a b e = cc
@@ -148,7 +148,7 @@ ups_send now w tried tried' all last (Some m) q us n f g h = at m.actor (f m ref
     none_some : (a : ℕ) → None ≡ Some a → ⊥
     none_some a e = cc
 
-    at : (o : Option ℕ) → o ≡ Some (actor_in w) → Invariant.UpAt now w tried all last o q → Invariant.UpAt now w tried' all last o (q ++ us)
+    at : (o : Option ℕ) → o ≡ Some (actor_in w) → Invariant.InboundAt now w tried all last o q → Invariant.InboundAt now w tried' all last o (q ++ us)
     at None e u = absurd (none_some (actor_in w) e)
     at (Some b) e u =
         let r = g u.reach (order_above b (actor_in w) all last q u.reach u.order) (u.sent n) in
@@ -160,38 +160,38 @@ ups_send now w tried tried' all last (Some m) q us n f g h = at m.actor (f m ref
         }
 
 -- nothing goes up
-pub ups_mute : (now : Type 0) (w : Option Resume) (tried : ℕ) (all : List Batch) (last : ℕ) (l : Option Link) (q : List Up) (b : Bool)
-    → Invariant.Ups now w tried all last l q → Invariant.Ups now w tried all last l (cond b (q ++ []) q)
-ups_mute now w tried all last l q true h = rw (append-nil q) h
-ups_mute now w tried all last l q false h = h
+pub inbounds_mute : (now : Type 0) (w : Option Resume) (tried : ℕ) (all : List Batch) (last : ℕ) (l : Option Link) (q : List Inbound) (b : Bool)
+    → Invariant.Inbounds now w tried all last l q → Invariant.Inbounds now w tried all last l (cond b (q ++ []) q)
+inbounds_mute now w tried all last l q true h = rw (append-nil q) h
+inbounds_mute now w tried all last l q false h = h
 
 -- A client flushes, or sends all once more: y is what is left, and us goes up
-module _ (s : State) (us : List Update) (ss : List Session) (given : List (ℕ × Option ℕ)) (c k : ℕ) (x : Core) (all : List Batch) (q : List Down) (l : Option Link) (ups fs : List Up)
-    (h : Invariant.Client s us ss given c (Some k) x all q l) (u : Invariant.Ups (Some k ≡ Some k) x.session (Invariant.tried x) all (last_of ss (actor x)) l ups) where
-  same_others : (y : Core) → y.session ≡ x.session → (m : Option Link) (r : List Up)
-      → Invariant.Ups ⊥ x.session (Invariant.tried x) all (last_of ss (actor x)) m r → Invariant.Ups ⊥ y.session (Invariant.tried y) all (last_of ss (actor y)) m r
-  same_others y e m r v = rw e (ups_idle ⊥ x.session (Invariant.tried x) (Invariant.tried y) all (last_of ss (actor x)) m r (λ i. i) v)
+module _ (s : State) (us : List Update) (ss : List Session) (given : List (ℕ × Option ℕ)) (c k : ℕ) (x : Core) (all : List Batch) (q : List Outbound) (l : Option Link) (inbounds fs : List Inbound)
+    (h : Invariant.Client s us ss given c (Some k) x all q l) (u : Invariant.Inbounds (Some k ≡ Some k) x.session (Invariant.tried x) all (last_of ss (actor x)) l inbounds) where
+  same_others : (y : Core) → y.session ≡ x.session → (m : Option Link) (r : List Inbound)
+      → Invariant.Inbounds ⊥ x.session (Invariant.tried x) all (last_of ss (actor x)) m r → Invariant.Inbounds ⊥ y.session (Invariant.tried y) all (last_of ss (actor y)) m r
+  same_others y e m r v = rw e (inbounds_idle ⊥ x.session (Invariant.tried x) (Invariant.tried y) all (last_of ss (actor x)) m r (λ i. i) v)
 
   -- nothing changes, and what goes up holds no operations, or nothing does
   pub turned_said : (IsOn x.stage × Sendable (actor x) all (last_of ss (actor x)) (Invariant.tried x) fs (Invariant.tried x)) ⊎ (fs ≡ [])
-      → Turned s us ss given c k x x all q l (cond (is_some l) (ups ++ fs) ups)
+      → Turned s us ss given c k x x all q l (cond (is_some l) (inbounds ++ fs) inbounds)
   turned_said (inl f) = record {
     client = h;
-    own = ups_send (Some k ≡ Some k) x.session (Invariant.tried x) (Invariant.tried x) all (last_of ss (actor x)) l ups fs refl
-        (λ m e. on_actor s us ss given c x.session (Invariant.place x h.done h.coming) q l m h.seated f.0 e) f.1 u;
+    own = inbounds_send (Some k ≡ Some k) x.session (Invariant.tried x) (Invariant.tried x) all (last_of ss (actor x)) l inbounds fs refl
+        (λ m e. on_actor s us ss given c x.session (Invariant.place x h.done h.coming) q l m h.standing f.0 e) f.1 u;
     others = same_others x refl;
   }
   turned_said (inr f) = record {
     client = h;
-    own = rw f (ups_mute (Some k ≡ Some k) x.session (Invariant.tried x) all (last_of ss (actor x)) l ups (is_some l) u);
+    own = rw f (inbounds_mute (Some k ≡ Some k) x.session (Invariant.tried x) all (last_of ss (actor x)) l inbounds (is_some l) u);
     others = same_others x refl;
   }
 
   pub turned_sent : x.stage ≡ Synced → Sendable (actor x) all (last_of ss (actor x)) (Invariant.tried x) fs (Invariant.tried (sent_all x))
-      → Turned s us ss given c k x (sent_all x) all q l (cond (is_some l) (ups ++ fs) ups)
+      → Turned s us ss given c k x (sent_all x) all q l (cond (is_some l) (inbounds ++ fs) inbounds)
   turned_sent e f = record {
-    client = record { done = h.done; coming = h.coming; own = own_sent s us (last_of ss (actor x)) x all h.done h.coming e h.own; stands = h.stands; seated = h.seated };
-    own = ups_send (Some k ≡ Some k) x.session (Invariant.tried x) (Invariant.tried (sent_all x)) all (last_of ss (actor x)) l ups fs refl
-        (λ m i. on_actor s us ss given c x.session (Invariant.place x h.done h.coming) q l m h.seated (subst IsOn (sym e) tt) i) f u;
+    client = record { done = h.done; coming = h.coming; own = own_sent s us (last_of ss (actor x)) x all h.done h.coming e h.own; stands = h.stands; standing = h.standing };
+    own = inbounds_send (Some k ≡ Some k) x.session (Invariant.tried x) (Invariant.tried (sent_all x)) all (last_of ss (actor x)) l inbounds fs refl
+        (λ m i. on_actor s us ss given c x.session (Invariant.place x h.done h.coming) q l m h.standing (subst IsOn (sym e) tt) i) f u;
     others = same_others (sent_all x) refl;
   }

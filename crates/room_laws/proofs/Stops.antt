@@ -8,21 +8,21 @@ use Rattle.room_model.specs.Account.{Batch, actor_in}
 use Rattle.room_model.specs.Server.{Server, Limits}
 use Rattle.room_model.specs.Lines as lines
 use Rattle.room_model.specs.World
-use Rattle.room_model.specs.World.{Conn, Seat, Host, Running, Stopped, state_in, links_of}
-use Rattle.room_model.specs.Run.{Run, seat_in, seat, account, all_given, IsUndisturbed, with_step}
+use Rattle.room_model.specs.World.{Conn, Slot, Host, Running, Stopped, state_in, links_of, slot_in, slot, account}
+use Rattle.room_model.specs.Run.{Run, all_given, IsUndisturbed, with_step}
 use Rattle.room_laws.specs.Core.{Core, core, actor}
 use Rattle.room_laws.specs.Queues.{Place}
 use Rattle.room_laws.specs.Invariant
 use Rattle.room_laws.proofs.Maps.{get_none, emptied_at, hushed}
 use Rattle.room_laws.proofs.Queues.{grown}
-use Rattle.room_laws.proofs.Keep.{client_as, ups_as}
+use Rattle.room_laws.proofs.Keep.{client_as, inbounds_as}
 use Rattle.room_laws.proofs.OwnLines.{keeps_saying}
 use Rattle.room_laws.proofs.Sessions.{begun_since}
 use Rattle.room_laws.proofs.Served.{ClientOf}
 use Rattle.room_laws.proofs.Facts.{none_some}
 
 pub record Stopping (s : State) (r t : Run) (grew : List Update) : Type 0 where
-  pub seats : (d : ℕ) → seat t.world d ≡ seat r.world d
+  pub slots : (d : ℕ) → slot t.world d ≡ slot r.world d
   pub batches : (d : ℕ) → Invariant.issued_by t d ≡ Invariant.issued_by r d
   pub opened : t.world.opened ≡ r.world.opened
   pub log : updates_of t.log ≡ updates_of r.log ++ grew
@@ -37,18 +37,18 @@ pub record Stopping (s : State) (r t : Run) (grew : List Update) : Type 0 where
 
 module _ (s : State) (r t : Run) (grew : List Update) (st : Invariant.Inv s r) (h : Stopping s r t grew) where
   before : (d : ℕ) → IsUndisturbed t d → IsUndisturbed r d
-  before d u = subst (λ (y : Seat). all_given d (actor_in (y.account).session) r.given ≡ true) (h.seats d)
+  before d u = subst (λ (y : Slot). all_given d (actor_in (y.account).session) r.given ≡ true) (h.slots d)
       (subst (λ (g : List (ℕ × Option ℕ)). all_given d (actor_in (account t.world d).session) g ≡ true) h.given u)
 
   stands_in : (o : Option Resume) → Invariant.StandsIn s (Invariant.sessions r) o → Invariant.StandsIn s (Invariant.sessions t) o
   stands_in None k = tt
   stands_in (Some w) k = h.stands w k
 
-  seated_at : (d : ℕ) (o : Option ℕ) (session : Option Resume) (here : Place) → Invariant.StandsIn s (Invariant.sessions r) session
-      → Invariant.Seated s (updates_of r.log) (Invariant.sessions r) r.given d o session here (Invariant.present_down r.world o) (Invariant.present_link r.world o)
-      → Invariant.Seated s (updates_of r.log ++ grew) (Invariant.sessions t) r.given d o session (grown grew here) (Invariant.present_down t.world o) (Invariant.present_link t.world o)
-  seated_at d None session here b k = record { idle = k.idle; bare = k.bare }
-  seated_at d (Some j) session here b k = rw (ap (λ (q : Conn). q.down) (h.conns j), h.links j) (record {
+  standing_at : (d : ℕ) (o : Option ℕ) (session : Option Resume) (here : Place) → Invariant.StandsIn s (Invariant.sessions r) session
+      → Invariant.Standing s (updates_of r.log) (Invariant.sessions r) r.given d o session here (Invariant.present_outbound r.world o) (Invariant.present_link r.world o)
+      → Invariant.Standing s (updates_of r.log ++ grew) (Invariant.sessions t) r.given d o session (grown grew here) (Invariant.present_outbound t.world o) (Invariant.present_link t.world o)
+  standing_at d None session here b k = record { idle = k.idle; bare = k.bare }
+  standing_at d (Some j) session here b k = rw (ap (λ (q : Conn). q.outbound) (h.conns j), h.links j) (record {
     who = session;
     named = inl refl;
     known = λ i. (refl, ap is_some (k.known i).0 ∙ (k.known i).1);
@@ -59,8 +59,8 @@ module _ (s : State) (r t : Run) (grew : List Update) (st : Invariant.Inv s r) (
   })
 
   client_at : (d : ℕ) → IsUndisturbed r d
-      → Invariant.Client s (updates_of r.log ++ grew) (Invariant.sessions t) r.given d (seat r.world d).present (Invariant.core_of r.world d) (Invariant.issued_by r d)
-      (Invariant.present_down t.world (seat r.world d).present) (Invariant.present_link t.world (seat r.world d).present)
+      → Invariant.Client s (updates_of r.log ++ grew) (Invariant.sessions t) r.given d (slot r.world d).present (Invariant.core_of r.world d) (Invariant.issued_by r d)
+      (Invariant.present_outbound t.world (slot r.world d).present) (Invariant.present_link t.world (slot r.world d).present)
   client_at d u =
       let k : ClientOf s r d = st.client d u in
       record {
@@ -68,7 +68,7 @@ module _ (s : State) (r t : Run) (grew : List Update) (st : Invariant.Inv s r) (
         coming = k.coming ++ grew;
         own = h.owns d u k;
         stands = stands_in (Invariant.core_of r.world d).session k.stands;
-        seated = seated_at d (seat r.world d).present (Invariant.core_of r.world d).session (Invariant.place (Invariant.core_of r.world d) k.done k.coming) k.stands k.seated;
+        standing = standing_at d (slot r.world d).present (Invariant.core_of r.world d).session (Invariant.place (Invariant.core_of r.world d) k.done k.coming) k.stands k.standing;
       }
 
   pub keeps_stopping : Invariant.Inv s t
@@ -76,11 +76,11 @@ module _ (s : State) (r t : Run) (grew : List Update) (st : Invariant.Inv s r) (
     shape = record {
       hosts = h.hosts;
       present = λ d j e.
-          let o = st.shape.present d j (ap (λ (y : Seat). y.present) (sym (h.seats d)) ∙ e) in
+          let o = st.shape.present d j (ap (λ (y : Slot). y.present) (sym (h.slots d)) ∙ e) in
           rw (h.conns j) (record { owner = o.owner; listens = o.listens });
-      heard = λ d j o. ap (λ (y : Seat). y.present) (h.seats d)
+      heard = λ d j o. ap (λ (y : Slot). y.present) (h.slots d)
           ∙ st.shape.heard d j (record { owner = ap (λ (q : Conn). q.owner) (sym (h.conns j)) ∙ o.owner; listens = ap (λ (q : Conn). q.listens) (sym (h.conns j)) ∙ o.listens });
-      deaf = λ j e. ap (λ (q : Conn). q.down) (h.conns j);
+      deaf = λ j e. ap (λ (q : Conn). q.outbound) (h.conns j);
       unlinked = λ j e. h.links j;
       unopened = λ j e. h.conns j ∙ ap hushed (st.shape.unopened j (subst (λ n. n < j) h.opened e));
       there = λ j l e. absurd (none_some l (sym (h.links j) ∙ e));
@@ -89,14 +89,14 @@ module _ (s : State) (r t : Run) (grew : List Update) (st : Invariant.Inv s r) (
     given = λ j a l e f d g. absurd (none_some l (sym (h.links j) ∙ e));
     actors = λ j a l e f. absurd (none_some l (sym (h.links j) ∙ e));
     nobody = λ d. rw h.given (st.nobody d);
-    client = λ d u. client_as s (updates_of r.log ++ grew) (updates_of t.log) (Invariant.sessions t) (Invariant.sessions t) r.given t.given d (seat r.world d).present (seat t.world d).present
+    client = λ d u. client_as s (updates_of r.log ++ grew) (updates_of t.log) (Invariant.sessions t) (Invariant.sessions t) r.given t.given d (slot r.world d).present (slot t.world d).present
         (Invariant.core_of r.world d) (Invariant.core_of t.world d) (Invariant.issued_by r d) (Invariant.issued_by t d)
-        (Invariant.present_down t.world (seat r.world d).present) (Invariant.present_down t.world (seat t.world d).present)
-        (Invariant.present_link t.world (seat r.world d).present) (Invariant.present_link t.world (seat t.world d).present)
-        h.log refl h.given (ap (λ (y : Seat). y.present) (h.seats d)) (ap (λ (y : Seat). core y.account) (h.seats d)) (h.batches d)
-        (ap (λ (y : Seat). Invariant.present_down t.world y.present) (h.seats d)) (ap (λ (y : Seat). Invariant.present_link t.world y.present) (h.seats d))
+        (Invariant.present_outbound t.world (slot r.world d).present) (Invariant.present_outbound t.world (slot t.world d).present)
+        (Invariant.present_link t.world (slot r.world d).present) (Invariant.present_link t.world (slot t.world d).present)
+        h.log refl h.given (ap (λ (y : Slot). y.present) (h.slots d)) (ap (λ (y : Slot). core y.account) (h.slots d)) (h.batches d)
+        (ap (λ (y : Slot). Invariant.present_outbound t.world y.present) (h.slots d)) (ap (λ (y : Slot). Invariant.present_link t.world y.present) (h.slots d))
         (client_at d (before d u));
-    ups = λ d j o u. rw (h.links j) (ap (λ (q : Conn). q.up) (h.conns j));
+    inbounds = λ d j o u. rw (h.links j) (ap (λ (q : Conn). q.inbound) (h.conns j));
   }
 
 -- nothing is taken into the log
@@ -108,7 +108,7 @@ stopped_at : (s : State) (r : Run) (v : Server) (n : State) → Invariant.Inv s 
 stopped_at s r v n st e f =
     let same : n ≡ state_in r.world.host = f ∙ ap state_in (sym e) in
     record {
-      seats = λ d. refl;
+      slots = λ d. refl;
       batches = λ d. refl;
       opened = refl;
       log = sym (append-nil (updates_of r.log));
@@ -136,12 +136,12 @@ pub record Settings (w v : World.World) : Type 0 where
 
 pub keeps_settings : (s : State) (r : Run) (v : World.World) → Settings r.world v → Invariant.Inv s r → Invariant.Inv s (record r { world = v })
 keeps_settings s r v h st =
-    let seats : (d : ℕ) → seat v d ≡ seat r.world d = λ d. ap (λ m. seat_in (get m d)) h.clients in
+    let slots : (d : ℕ) → slot v d ≡ slot r.world d = λ d. ap (λ m. slot_in (get m d)) h.clients in
     record {
       shape = record {
         hosts = h.hosts st.shape.hosts;
-        present = λ d j e. rw h.conns (st.shape.present d j (sym (ap (λ (y : Seat). y.present) (seats d)) ∙ e));
-        heard = λ d j o. ap (λ (y : Seat). y.present) (seats d) ∙ st.shape.heard d j (subst (λ m. Invariant.Open (Invariant.conn_in (get m j)) d) h.conns o);
+        present = λ d j e. rw h.conns (st.shape.present d j (sym (ap (λ (y : Slot). y.present) (slots d)) ∙ e));
+        heard = λ d j o. ap (λ (y : Slot). y.present) (slots d) ∙ st.shape.heard d j (subst (λ m. Invariant.ListensFor (Invariant.conn_in (get m j)) d) h.conns o);
         deaf = λ j e. rw h.conns (st.shape.deaf j (subst (λ m. (Invariant.conn_in (get m j)).listens ≡ false) h.conns e));
         unlinked = λ j e. h.links j ∙ st.shape.unlinked j (subst (λ n. n < j) h.opened e);
         unopened = λ j e. rw h.conns (st.shape.unopened j (subst (λ n. n < j) h.opened e));
@@ -151,27 +151,27 @@ keeps_settings s r v h st =
       given = λ j a l e f d g. rw h.conns (st.given j a l (sym (h.links j) ∙ e) f d g);
       actors = λ j a l e f. subst (λ (z : State). (0 < a) × (a ≤ length z.sessions)) (sym h.state) (st.actors j a l (sym (h.links j) ∙ e) f);
       nobody = st.nobody;
-      client = λ d u. client_as s (updates_of r.log) (updates_of r.log) (Invariant.sessions r) ((state_in v.host).sessions) r.given r.given d (seat r.world d).present (seat v d).present
+      client = λ d u. client_as s (updates_of r.log) (updates_of r.log) (Invariant.sessions r) ((state_in v.host).sessions) r.given r.given d (slot r.world d).present (slot v d).present
           (Invariant.core_of r.world d) (Invariant.core_of v d) (Invariant.issued_by r d) (Invariant.issued_by r d)
-          (Invariant.present_down r.world (seat r.world d).present) (Invariant.present_down v (seat v d).present)
-          (Invariant.present_link r.world (seat r.world d).present) (Invariant.present_link v (seat v d).present)
-          refl (ap (λ (z : State). z.sessions) h.state) refl (ap (λ (y : Seat). y.present) (seats d)) (ap (λ (y : Seat). core y.account) (seats d)) refl
-          (ap (λ (y : Seat). Invariant.present_down v y.present) (seats d) ∙ down_at (seat r.world d).present) (ap (λ (y : Seat). Invariant.present_link v y.present) (seats d) ∙ link_at (seat r.world d).present)
-          (st.client d (subst (λ (y : Seat). all_given d (actor_in (y.account).session) r.given ≡ true) (seats d) u));
-      ups = λ d j o u. ups_as ((seat r.world d).present ≡ Some j) ((seat v d).present ≡ Some j) (Invariant.core_of r.world d).session (Invariant.core_of v d).session
+          (Invariant.present_outbound r.world (slot r.world d).present) (Invariant.present_outbound v (slot v d).present)
+          (Invariant.present_link r.world (slot r.world d).present) (Invariant.present_link v (slot v d).present)
+          refl (ap (λ (z : State). z.sessions) h.state) refl (ap (λ (y : Slot). y.present) (slots d)) (ap (λ (y : Slot). core y.account) (slots d)) refl
+          (ap (λ (y : Slot). Invariant.present_outbound v y.present) (slots d) ∙ outbound_at (slot r.world d).present) (ap (λ (y : Slot). Invariant.present_link v y.present) (slots d) ∙ link_at (slot r.world d).present)
+          (st.client d (subst (λ (y : Slot). all_given d (actor_in (y.account).session) r.given ≡ true) (slots d) u));
+      inbounds = λ d j o u. inbounds_as ((slot r.world d).present ≡ Some j) ((slot v d).present ≡ Some j) (Invariant.core_of r.world d).session (Invariant.core_of v d).session
           (Invariant.tried (Invariant.core_of r.world d)) (Invariant.tried (Invariant.core_of v d)) (Invariant.issued_by r d) (Invariant.issued_by r d)
           (last_of (Invariant.sessions r) (actor (Invariant.core_of r.world d))) (last_of (state_in v.host).sessions (actor (Invariant.core_of v d)))
-          (Invariant.link r.world j) (Invariant.link v j) (Invariant.conn r.world j).up (Invariant.conn v j).up
-          (λ n. ap (λ (y : Seat). y.present) (sym (seats d)) ∙ n)
-          (ap (λ (y : Seat). (core y.account).session) (seats d)) (ap (λ (y : Seat). Invariant.tried (core y.account)) (seats d)) refl
-          (ap (λ (z : State). last_of z.sessions (actor (Invariant.core_of v d))) h.state ∙ ap (λ (y : Seat). last_of (Invariant.sessions r) (actor (core y.account))) (seats d))
-          (h.links j) (ap (λ m. (Invariant.conn_in (get m j)).up) h.conns)
-          (st.ups d j (subst (λ m. (Invariant.conn_in (get m j)).owner ≡ Some d) h.conns o) (subst (λ (y : Seat). all_given d (actor_in (y.account).session) r.given ≡ true) (seats d) u));
+          (Invariant.link r.world j) (Invariant.link v j) (Invariant.conn r.world j).inbound (Invariant.conn v j).inbound
+          (λ n. ap (λ (y : Slot). y.present) (sym (slots d)) ∙ n)
+          (ap (λ (y : Slot). (core y.account).session) (slots d)) (ap (λ (y : Slot). Invariant.tried (core y.account)) (slots d)) refl
+          (ap (λ (z : State). last_of z.sessions (actor (Invariant.core_of v d))) h.state ∙ ap (λ (y : Slot). last_of (Invariant.sessions r) (actor (core y.account))) (slots d))
+          (h.links j) (ap (λ m. (Invariant.conn_in (get m j)).inbound) h.conns)
+          (st.inbounds d j (subst (λ m. (Invariant.conn_in (get m j)).owner ≡ Some d) h.conns o) (subst (λ (y : Slot). all_given d (actor_in (y.account).session) r.given ≡ true) (slots d) u));
     }
   where
-    down_at : (o : Option ℕ) → Invariant.present_down v o ≡ Invariant.present_down r.world o
-    down_at None = refl
-    down_at (Some j) = ap (λ m. (Invariant.conn_in (get m j)).down) h.conns
+    outbound_at : (o : Option ℕ) → Invariant.present_outbound v o ≡ Invariant.present_outbound r.world o
+    outbound_at None = refl
+    outbound_at (Some j) = ap (λ m. (Invariant.conn_in (get m j)).outbound) h.conns
 
     link_at : (o : Option ℕ) → Invariant.present_link v o ≡ Invariant.present_link r.world o
     link_at None = refl
@@ -228,7 +228,7 @@ module _ (s : State) (r : Run) (st : Invariant.Inv s r) where
         hosts = λ h. record { room = refl; access = refl; free = λ j l i. absurd (none_some l (sym (get_none j) ∙ i)) };
       }) st)
   started_at n (World.Fires call how) e = keeps_saying s (record r { world = World.stopped r.world n }) (lines.start_failed_line ∷ []) (keeps_stopping s r (record r { world = World.stopped r.world n }) [] st (record {
-    seats = λ d. refl;
+    slots = λ d. refl;
     batches = λ d. refl;
     opened = refl;
     log = sym (append-nil (updates_of r.log));

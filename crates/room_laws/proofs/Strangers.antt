@@ -12,15 +12,15 @@ use Rattle.room_msg.specs.declared.messages.ClientFrame.TheVariants as frame
 use Rattle.room_msg.specs.declared.reason.Reason.TheVariants as reason
 use Rattle.room_log.specs.Log.{State, Session, Updated, Update, session_of, last_in, updated}
 use Rattle.room_log.specs.Take.{Taken, Nothing, Gap, Takes, take}
-use Rattle.room_model.specs.Access.{may_do, refusal_text}
+use Rattle.room_model.specs.Access.{Decision, barred, refusal_text}
 use Rattle.room_model.specs.Server
-use Rattle.room_model.specs.Server.{Link, Up, Served, Pong}
+use Rattle.room_model.specs.Server.{Link, Inbound, Served, Pong}
 use Rattle.room_model.specs.World
 use Rattle.room_model.specs.World.{Conn, Host, Running, Fuse, state_in, links_of}
 use Rattle.room_model.specs.Run.{Run, IsUndisturbed}
 use Rattle.room_laws.specs.Invariant
 use Rattle.room_laws.proofs.Maps.{mine, conn_same}
-use Rattle.room_laws.proofs.Calm.{ups_after, SaidTo}
+use Rattle.room_laws.proofs.Calm.{inbounds_after, SaidTo}
 use Rattle.room_laws.proofs.Acts.{pops, keeps_say}
 use Rattle.room_laws.proofs.Answering.{Kept, keeps_shut, quietly, low}
 use Rattle.room_laws.proofs.Outcomes.{joins_kept, resumes_kept, commits_kept}
@@ -28,6 +28,7 @@ use Rattle.room_laws.proofs.Serves.{begins, talk_kept, sent_kept, reached_kept}
 use Rattle.room_laws.proofs.Talks.{Reached}
 use Rattle.room_laws.proofs.Takings.{Taking, taking}
 use Rattle.room_laws.proofs.Mixed.{mixed}
+use Rattle.room_laws.proofs.Acting.{act_from, taken_from, taken_is}
 
 slice_there : (ss : List Session) (a : ℕ) → 0 < a → a ≤ length ss → (x : Session) × (session_of ss a ≡ Some x)
 slice_there ss zero p q = absurd (omega arith)
@@ -35,13 +36,13 @@ slice_there [] (suc i) p q = absurd (omega arith)
 slice_there (x ∷ ss) (suc zero) p q = (x, refl)
 slice_there (x ∷ ss) (suc (suc i)) p q = slice_there ss (suc i) (omega arith) (omega arith)
 
-module _ (s : State) (r : Run) (v : Server.Server) (k : ℕ) (q : Conn) (u : Up) (us : List Up) (st : Invariant.Inv s r) (there : get r.world.conns k ≡ Some q) (first : q.up ≡ u ∷ us) (runs : r.world.host ≡ Running v)
+module _ (s : State) (r : Run) (v : Server.Server) (k : ℕ) (q : Conn) (u : Inbound) (us : List Inbound) (st : Invariant.Inv s r) (there : get r.world.conns k ≡ Some q) (first : q.inbound ≡ u ∷ us) (runs : r.world.host ≡ Running v)
     (l : Link) (attached : get v.links k ≡ Some l) (void : (d : ℕ) → (Invariant.conn r.world k).owner ≡ Some d → IsUndisturbed r d → ⊥) where
   abbrev KeptHere : Served → Type 0
   KeptHere out = Kept s r v k q u us st there first runs out
 
   abbrev w : World.World
-  w = World.with_conn r.world k (record q { up = us })
+  w = World.with_conn r.world k (record q { inbound = us })
 
   abbrev Spelled : Update → Type 0
   Spelled n = tree_in (items_of (updated v.state n).tree) ≡ Some (updated v.state n).tree
@@ -54,7 +55,7 @@ module _ (s : State) (r : Run) (v : Server.Server) (k : ℕ) (q : Conn) (u : Up)
   shuts code text = keeps_shut s r v k q u us st there first runs l code text attached
 
   owner_is : (Invariant.conn w k).owner ≡ (Invariant.conn r.world k).owner
-  owner_is = ap (λ (p : Conn). p.owner) (conn_same r.world.conns k (record q { up = us })) ∙ ap (λ (p : Conn). p.owner) (sym (ap Invariant.conn_in there))
+  owner_is = ap (λ (p : Conn). p.owner) (conn_same r.world.conns k (record q { inbound = us })) ∙ ap (λ (p : Conn). p.owner) (sym (ap Invariant.conn_in there))
 
   link_here : Invariant.link r.world k ≡ Some l
   link_here = ap (λ (g : Host). get (links_of g) k) runs ∙ attached
@@ -76,7 +77,7 @@ module _ (s : State) (r : Run) (v : Server.Server) (k : ℕ) (q : Conn) (u : Up)
     started = begins s r v k q u us st there first runs l attached a named (λ d o i. absurd (void d o i))
 
     abbrev Out : Update → Served
-    Out n = Server.act_all (Server.nothing v) k a (Some n) ms
+    Out n = act_from (Server.nothing v) k a (Some n) ms
 
     none_kept : (n : Update) → Reached s r w k a (Out n) → (Out n).entry ≡ None → KeptHere (Out n)
     none_kept n h e = reached_kept s r v k q u us st there first runs l attached a (Out n) named e h
@@ -95,15 +96,20 @@ module _ (s : State) (r : Run) (v : Server.Server) (k : ℕ) (q : Conn) (u : Up)
         let done = mixed s r w k a v.state n x.0 t.actor known next t.some (λ d o i. void d (sym owner_is ∙ o) i) v ms refl started (f n) in
         ⊎_elim (none_kept n done.reached) (some_kept n x.0 known next t.some t.actor f done.reached) done.entry
 
-    taken_kept : (t : Taken) → take v.state a (Server.all_ops_in ms) ≡ t → Spells (Server.taken v k l a ms t) → KeptHere (Server.taken v k l a ms t)
+    taken_kept : (t : Taken) → take v.state a (Server.all_ops_in ms) ≡ t → Spells (taken_from v k l a ms t) → KeptHere (taken_from v k l a ms t)
     taken_kept Nothing e f = talk_kept s r v k q u us st there first runs l attached a ms named (λ d o i. absurd (void d o i))
     taken_kept (Gap expected got) e f = shuts 4402 (Server.expected_got (codes "clock gap") expected got)
-    taken_kept (Takes n) e f = by_full (nat_le v.limits.updates v.state.count) 4406 (codes "room full " ++ decimal v.state.count) (Out n) (λ i. takes_kept n e (spells_on (Server.taken v k l a ms (Takes n)) (Out n) i f))
+    taken_kept (Takes n) e f = by_full (nat_le v.limits.updates v.state.count) 4406 (codes "room full " ++ decimal v.state.count) (Out n) (λ i. takes_kept n e (spells_on (taken_from v k l a ms (Takes n)) (Out n) i f))
 
     owned_kept : (o : Option ℕ) → Spells (Server.owned v k l a ms o) → KeptHere (Server.owned v k l a ms o)
     owned_kept (Some got) f = shuts 4404 (Server.expected_got (codes "foreign actor") a got)
-    owned_kept None f = by_may (may_do l.decision ms) 4403 (refusal_text l.decision) (Server.taken v k l a ms (take v.state a (Server.all_ops_in ms)))
-        (λ i. taken_kept (take v.state a (Server.all_ops_in ms)) refl (spells_on (Server.owned v k l a ms None) (Server.taken v k l a ms (take v.state a (Server.all_ops_in ms))) i f))
+    owned_kept None f = unless (barred l.decision ms) f
+      where
+        unless : (bar : Option Decision) → Spells (Server.permitted_unless v k l a ms bar) → KeptHere (Server.permitted_unless v k l a ms bar)
+        unless None g =
+            let t = take v.state a (Server.all_ops_in ms) in
+            subst KeptHere (sym (taken_is v k l a ms t)) (taken_kept t refl (subst Spells (taken_is v k l a ms t) g))
+        unless (Some bar) g = shuts 4403 (refusal_text bar)
 
     pub session_kept : Spells (Server.session_frame v k l a ms) → KeptHere (Server.session_frame v k l a ms)
     session_kept f = by_full (Server.has_hello ms) 4400 (codes "bad frame " ++ Server.reason_text reason.Hello) (Server.owned v k l a ms (Server.foreign_in a (Server.all_ops_in ms)))
@@ -140,9 +146,9 @@ module _ (s : State) (r : Run) (v : Server.Server) (k : ℕ) (q : Conn) (u : Up)
   pong_mine j (inl e) d o i = absurd (void d (sym owner_is ∙ subst (λ n. (Invariant.conn w n).owner ≡ Some d) e o) i)
   pong_mine j (inr e) d o i = rw (ne_eqb k j (λ f. e (sym f))) (record { said = tt; bare = λ f. refl })
 
-  pong_ups : (j : ℕ) (x : List Up) → (j ≡ k) ⊎ (j ≡ k → ⊥) → ups_after x (mine j ((k, Pong) ∷ [])) ≡ x
-  pong_ups j x (inl e) = rw (eq-eqb k j (sym e)) refl
-  pong_ups j x (inr e) = rw (ne_eqb k j (λ f. e (sym f))) refl
+  pong_inbounds : (j : ℕ) (x : List Inbound) → (j ≡ k) ⊎ (j ≡ k → ⊥) → inbounds_after x (mine j ((k, Pong) ∷ [])) ≡ x
+  pong_inbounds j x (inl e) = rw (eq-eqb k j (sym e)) refl
+  pong_inbounds j x (inr e) = rw (ne_eqb k j (λ f. e (sym f))) refl
 
   popped : Invariant.Inv s (record r { world = w })
   popped = pops s r k q us st (ap Invariant.conn_in there) (low s r v k q u us st there first runs) (λ d o i. absurd (void d o i))
@@ -157,14 +163,14 @@ module _ (s : State) (r : Run) (v : Server.Server) (k : ℕ) (q : Conn) (u : Up)
 
   pub pong_kept : KeptHere (Server.served v ((k, Pong) ∷ []))
   pong_kept = quietly s r v k q u us st there first runs (Server.served v ((k, Pong) ∷ [])) refl (unchanged (get v.links k))
-      (λ f. keeps_say s (record r { world = w }) v f ((k, Pong) ∷ []) popped runs (λ j d o i. pong_mine j (cases_eq j k) d o i) (λ j x. pong_ups j x (cases_eq j k)))
+      (λ f. keeps_say s (record r { world = w }) v f ((k, Pong) ∷ []) popped runs (λ j d o i. pong_mine j (cases_eq j k) d o i) (λ j x. pong_inbounds j x (cases_eq j k)))
 
   -- any frame
   pub messages_kept : v.access ≡ None → (ms : List ClientMsg) (o : Option ℕ) → l.actor ≡ o → Spells (Server.messages v k l ms o) → KeptHere (Server.messages v k l ms o)
   messages_kept access ms None e f = hello_of_kept e access (Server.only_hello ms)
   messages_kept access ms (Some a) e f = session_kept a e ms f
 
-  pub stranger_kept : v.access ≡ None → (x : Up) → Spells (Server.frame_at v k l x) → KeptHere (Server.frame_at v k l x)
+  pub stranger_kept : v.access ≡ None → (x : Inbound) → Spells (Server.frame_at v k l x) → KeptHere (Server.frame_at v k l x)
   stranger_kept access (Err e) f = shuts 4400 (codes "bad frame " ++ Server.reason_text e)
   stranger_kept access (Ok frame.Ping) f = pong_kept
   stranger_kept access (Ok (frame.Msgs ms)) f = messages_kept access ms l.actor refl f

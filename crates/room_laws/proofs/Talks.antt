@@ -14,19 +14,20 @@ use Rattle.room_msg.specs.declared.messages.ServerMsg.{ServerMsg}
 use Rattle.room_msg.specs.declared.messages.ServerMsg.TheVariants as server
 use Rattle.room_log.specs.Log.{State, Entry, Update}
 use Rattle.room_model.specs.Server
-use Rattle.room_model.specs.Server.{Down, Message, Link, Up, Served, has_session, holds, is_actor}
+use Rattle.room_model.specs.Server.{Outbound, Message, Link, Inbound, Served, has_session, holds, is_actor}
 use Rattle.room_model.specs.World
 use Rattle.room_model.specs.World.{Conn, Host, Running, Fuse, deliver, links_of}
 use Rattle.room_model.specs.Run.{Run}
 use Rattle.room_laws.specs.Queues.{Place, IsOn, Says}
 use Rattle.room_laws.specs.Invariant
 use Rattle.room_laws.proofs.Maps.{mine, passes, to_each_of, to_others_same, to_others_other, get_same}
-use Rattle.room_laws.proofs.Calm.{ups_after, SaidTo, passes_said}
+use Rattle.room_laws.proofs.Calm.{inbounds_after, SaidTo, passes_said}
 use Rattle.room_laws.proofs.Sent.{AllSaid}
-use Rattle.room_laws.proofs.Leaving.{ups_passed}
+use Rattle.room_laws.proofs.Leaving.{inbounds_passed}
 use Rattle.room_laws.proofs.Acts.{keeps_say, keeps_fetch}
+use Rattle.room_laws.proofs.Acting.{act_from}
 
-pub deliver-append : (qs : FinMap nat_cmp Conn) (a b : List (ℕ × Down)) → deliver (deliver qs a) b ≡ deliver qs (a ++ b)
+pub deliver-append : (qs : FinMap nat_cmp Conn) (a b : List (ℕ × Outbound)) → deliver (deliver qs a) b ≡ deliver qs (a ++ b)
 deliver-append qs [] b = refl
 deliver-append qs (o ∷ a) b = deliver-append (World.give qs o.0 o.1 (get qs o.0)) a b
 
@@ -36,13 +37,13 @@ or_none (Some d) = refl
 
 -- what is said to the others, and to one of them
 
-abbrev Sayable : FinMap nat_cmp Link → List (ℕ × Down) → Type 0
-Sayable ls outs = (j : ℕ) → SaidTo (get ls j) (mine j outs) × ((us : List Up) → ups_after us (mine j outs) ≡ us)
+abbrev Sayable : FinMap nat_cmp Link → List (ℕ × Outbound) → Type 0
+Sayable ls outs = (j : ℕ) → SaidTo (get ls j) (mine j outs) × ((us : List Inbound) → inbounds_after us (mine j outs) ≡ us)
 
 others_say : (ls : FinMap nat_cmp Link) (k : ℕ) (m : ServerMsg) → ((s : State) (w : Option Resume.Resume) (p : Place) → IsOn p.stage → Says s w p (Message m) p) → Sayable ls (Server.to_others ls k m)
 others_say ls k m f j = ⊎_elim
     (λ e. rw e (rw (to_others_same m k ls) (record { said = tt; bare = λ i. refl }, λ us. refl)))
-    (λ e. rw (to_others_other m k j ls e) (passes_said (Message m) (get ls j) f, λ us. ups_passed us has_session m (get ls j)))
+    (λ e. rw (to_others_other m k j ls e) (passes_said (Message m) (get ls j) f, λ us. inbounds_passed us has_session m (get ls j)))
     (cases_eq j k)
 
 holders_said : (b : ℕ) (m : ServerMsg) (l : Option Link) → ((s : State) (w : Option Resume.Resume) (p : Place) → IsOn p.stage → Says s w p (Message m) p) → SaidTo l (passes (holds b) (Message m) l)
@@ -57,7 +58,7 @@ presence_say : (v : Server.Server) (k a : ℕ) (target : Option ℤ) (patch : Li
 presence_say v k a None patch = others_say v.links k (server.Presence a None patch) (λ s w p on. record { on = on; place = refl })
 presence_say v k a (Some (negsuc n)) patch = others_say v.links k (server.Presence a (Some (negsuc n)) patch) (λ s w p on. record { on = on; place = refl })
 presence_say v k a (Some (pos b)) patch = λ j. rw (to_each_of (holds b) (Message (server.Presence a (Some (pos b)) patch)) j v.links)
-    (holders_said b (server.Presence a (Some (pos b)) patch) (get v.links j) (λ s w p on. record { on = on; place = refl }), λ us. ups_passed us (holds b) (server.Presence a (Some (pos b)) patch) (get v.links j))
+    (holders_said b (server.Presence a (Some (pos b)) patch) (get v.links j) (λ s w p on. record { on = on; place = refl }), λ us. inbounds_passed us (holds b) (server.Presence a (Some (pos b)) patch) (get v.links j))
 
 -- w: the world without the frame; k is attached, with the actor a
 module _ (s : State) (r : Run) (w : World.World) (k a : ℕ) where
@@ -71,7 +72,7 @@ module _ (s : State) (r : Run) (w : World.World) (k a : ℕ) where
     pub stands : (f : Option Fuse) → Invariant.Inv s (run_of sv f)
 
   -- something is said
-  said : (sv : Served) (outs : List (ℕ × Down)) → Reached sv → Sayable sv.server.links outs → Reached (Server.then_served sv (Server.served sv.server outs))
+  said : (sv : Served) (outs : List (ℕ × Outbound)) → Reached sv → Sayable sv.server.links outs → Reached (Server.then_served sv (Server.served sv.server outs))
   said sv outs h f = record {
     link = h.link;
     attached = h.attached;
@@ -115,6 +116,6 @@ module _ (s : State) (r : Run) (w : World.World) (k a : ℕ) where
   waits_none (client.Update os) = refl
 
   -- a whole frame, where no update waits
-  pub talk_all : (ms : List ClientMsg) (sv : Served) → Reached sv → Reached (Server.act_all sv k a None ms)
+  pub talk_all : (ms : List ClientMsg) (sv : Served) → Reached sv → Reached (act_from sv k a None ms)
   talk_all [] sv h = h
   talk_all (m ∷ ms) sv h = rw (waits_none m) (talk_all ms (Server.then_served sv (Server.acts sv.server k a None m)) (talk sv m h))

@@ -42,8 +42,8 @@ issued_at r n c l b e = subst (In b) (sym (issued_of-append c r.issued (World.st
 
 good : (s : State) (q : Course) (c : ℕ) → Good s (Undo.whole s q c)
 good s q c =
-    keeps_all s q.rest (Undo.undone s q c) (keeps s (Undo.until s q c) q.back (lines.Undo c) (keeps_all s q.until (Undo.ended s q c)
-    (keeps s (Undo.made_in s q c) q.last (lines.End c) (keeps_all s q.within (Undo.begun s q c) (keeps s (Undo.before s q) q.first (lines.Begin c)
+    keeps_all s q.rest (Undo.undone s q c) (keeps s (Undo.until s q c) q.back (lines.OfClient c lines.Undo) (keeps_all s q.until (Undo.ended s q c)
+    (keeps s (Undo.made_in s q c) q.last (lines.OfClient c lines.End) (keeps_all s q.within (Undo.begun s q c) (keeps s (Undo.before s q) q.first (lines.OfClient c lines.Begin)
     (keeps_all s q.before (opened s) (λ g. begins s (g [] [] refl))))))))
 
 pub each_undo : UndoRestores → EachUndo
@@ -51,12 +51,12 @@ each_undo restores s q c t made back us vs ws b u reads calm g h sound =
     log.undone restores s (Undo.whole s q c) c t made back us vs ws b u (kept s (Undo.whole s q c) c (good s q c reads) calm) (record {
       log = h.log;
       taken = record {
-        issued = stays (Undo.undone s q c) q.rest c made (stays_line (Undo.until s q c) q.back c (lines.Undo c) made (stays (Undo.ended s q c) q.until c made (issued_at (Undo.made_in s q c) q.last c (lines.End c) made g.issues)));
+        issued = stays (Undo.undone s q c) q.rest c made (stays_line (Undo.until s q c) q.back c (lines.OfClient c lines.Undo) made (stays (Undo.ended s q c) q.until c made (issued_at (Undo.made_in s q c) q.last c (lines.OfClient c lines.End) made g.issues)));
         actor = h.of_made;
         first = h.clock;
       };
       taken_back = record {
-        issued = stays (Undo.undone s q c) q.rest c back (issued_at (Undo.until s q c) q.back c (lines.Undo c) back g.undoes);
+        issued = stays (Undo.undone s q c) q.rest c back (issued_at (Undo.until s q c) q.back c (lines.OfClient c lines.Undo) back g.undoes);
         actor = h.of_back;
         first = h.clock_back;
       };

@@ -1,7 +1,6 @@
 -- What undoing asks of trees and operations holds in every run.
 use Rattle.std.proofs.Common.{◌≡◌, ℕ, List, [], ◌∷◌, ◌++◌, length-append, append_assoc, refl, sym, subst, arith}
 use Rattle.std.specs.Prelude.{Option, Some, None, ⊤}
-use Rattle.std.specs.FinMap.{get}
 use Rattle.room_nodes.specs.declared.nodes.Body.{Body}
 use Rattle.room_nodes.specs.Ordered.{AreOrderedBodies}
 use Rattle.room_nodes.specs.Shape.{Nodes, IsFormed}
@@ -18,7 +17,8 @@ use Rattle.room_model.specs.Account.{Account, Batch, OpenBatch, Stage, all_bodie
 use Rattle.room_model.specs.History.{History}
 use Rattle.room_model.specs.Lines as lines
 use Rattle.room_model.specs.Lines.{Line}
-use Rattle.room_model.specs.Run.{Run, run, line, opened, account}
+use Rattle.room_model.specs.World.{account}
+use Rattle.room_model.specs.Run.{Run, run, line, opened}
 use Rattle.room_model.specs.Sound.{HasTree, IsSound, IsValidTree, AreValidBatches}
 use Rattle.room_laws.specs.Always.{IsMade, lines_of}
 use Rattle.room_laws.specs.Undo.{Course, Goes, before, made_in}
@@ -119,17 +119,17 @@ run-append (l ∷ ls) ms r = run-append ls ms (line r l.0 l.1)
 module _ (accounts : SoundAccounts) where
   pub made_sound : (s : State) (q : Course) (c : ℕ) (t : Nodes) (made back : Batch) → IsValidState s → AreLines (lines_of q c) → Goes s q c t made back → IsMade t made
   made_sound s q c t made back h l g =
-      let behind = (q.last, lines.End c) ∷ (q.until ++ (q.back, lines.Undo c) ∷ q.rest) in
-      let until_end = q.before ++ (q.first, lines.Begin c) ∷ q.within in
-      let first_lines : AreLines q.before = lines_front q.before ((q.first, lines.Begin c) ∷ (q.within ++ behind)) l in
-      let all_lines : AreLines (until_end ++ behind) = subst AreLines (sym (append_assoc q.before ((q.first, lines.Begin c) ∷ q.within) behind)) l in
+      let behind = (q.last, lines.OfClient c lines.End) ∷ (q.until ++ (q.back, lines.OfClient c lines.Undo) ∷ q.rest) in
+      let until_end = q.before ++ (q.first, lines.OfClient c lines.Begin) ∷ q.within in
+      let first_lines : AreLines q.before = lines_front q.before ((q.first, lines.OfClient c lines.Begin) ∷ (q.within ++ behind)) l in
+      let all_lines : AreLines (until_end ++ behind) = subst AreLines (sym (append_assoc q.before ((q.first, lines.OfClient c lines.Begin) ∷ q.within) behind)) l in
       let x = account (before s q).world c in
       let tree : Tree t = shows_tree x x.confirmed t (accounts s q.before c h first_lines) refl g.shows in
       let w = (made_in s q c).world in
-      let later : IsSound (account w c) = subst (λ (r : Run). IsSound (account r.world c)) (run-append q.before ((q.first, lines.Begin c) ∷ q.within) (opened s)) (accounts s until_end c h (lines_front until_end behind all_lines)) in
+      let later : IsSound (account w c) = subst (λ (r : Run). IsSound (account r.world c)) (run-append q.before ((q.first, lines.OfClient c lines.Begin) ∷ q.within) (opened s)) (accounts s until_end c h (lines_front until_end behind all_lines)) in
       let gathered : AreSoundBodies g.batch.bodies = subst (λ o. AreSoundBodies (bodies_in o)) g.stood later.own.bodies.sound in
       record {
         formed = tree.formed;
         ordered = keeps_sound.ordered t tree.sound;
-        bodies = subst AreOrderedBodies (sym (ends_at w q.last c made g.batch (get w.clients c) refl g.stood g.issues)) (keeps_sound.ordered_bodies g.batch.bodies gathered);
+        bodies = subst AreOrderedBodies (sym (ends_at w q.last c made g.batch g.stood g.issues)) (keeps_sound.ordered_bodies g.batch.bodies gathered);
       }

@@ -6,7 +6,8 @@ use Rattle.room_log.specs.Log.{State, Update, tree_after, updates_of}
 use Rattle.room_model.specs.Account.{Batch, actor}
 use Rattle.room_model.specs.Sound.{RunsOn}
 use Rattle.room_steps.specs.Laws.{UndoRestores}
-use Rattle.room_model.specs.Run.{Run, run, opened, account, issued_of}
+use Rattle.room_model.specs.World.{account}
+use Rattle.room_model.specs.Run.{Run, run, opened, issued_of}
 use Rattle.room_laws.specs.Ledger.{In}
 use Rattle.room_laws.specs.Laws.{Kept, Once}
 use Rattle.room_laws.specs.Undoing.{Accepts, TakesBack, IsInOrder, EachUndone, bodies_after}
@@ -15,21 +16,21 @@ use Rattle.room_laws.proofs.Settled.{fold_settled, formed_after, tree_is}
 use Rattle.room_laws.proofs.Whole.{each_once}
 
 -- the batch that an update took
-pub record Took (t : Nodes) (u : Update) (bs : List Batch) : Type 0 where
+pub record Received (t : Nodes) (u : Update) (bs : List Batch) : Type 0 where
   pub batch : Batch
   pub issued : In batch bs
   pub first : u.first ≡ batch.first
   pub bodies : u.bodies ≡ settle_all t batch.bodies
 
-further : (t : Nodes) (u : Update) (b : Batch) (bs cs : List Batch) → bs ≡ b ∷ cs → Took t u cs → Took t u bs
+further : (t : Nodes) (u : Update) (b : Batch) (bs cs : List Batch) → bs ≡ b ∷ cs → Received t u cs → Received t u bs
 further t u b bs cs e h = record { batch = h.batch; issued = rw e (inr h.issued); first = h.first; bodies = h.bodies }
 
 -- each update of the actor took one
-pub took_at : (a : ℕ) (t : Nodes) (us : List Update) (u : Update) (vs : List Update) (bs : List Batch) → Once a t (us ++ u ∷ vs) bs → u.actor ≡ a → Took (tree_after t us) u bs
-took_at a t [] u vs bs (inl h) e = record { batch = h.batch; issued = rw h.front (inl refl); first = h.first; bodies = h.bodies }
-took_at a t [] u vs bs (inr h) e = absurd (h.other e)
-took_at a t (x ∷ us) u vs bs (inl h) e = further (tree_after (fold t x.bodies) us) u h.batch bs h.others h.front (took_at a (fold t x.bodies) us u vs h.others h.more e)
-took_at a t (x ∷ us) u vs bs (inr h) e = took_at a (fold t x.bodies) us u vs bs h.more e
+pub received_at : (a : ℕ) (t : Nodes) (us : List Update) (u : Update) (vs : List Update) (bs : List Batch) → Once a t (us ++ u ∷ vs) bs → u.actor ≡ a → Received (tree_after t us) u bs
+received_at a t [] u vs bs (inl h) e = record { batch = h.batch; issued = rw h.front (inl refl); first = h.first; bodies = h.bodies }
+received_at a t [] u vs bs (inr h) e = absurd (h.other e)
+received_at a t (x ∷ us) u vs bs (inl h) e = further (tree_after (fold t x.bodies) us) u h.batch bs h.others h.front (received_at a (fold t x.bodies) us u vs h.others h.more e)
+received_at a t (x ∷ us) u vs bs (inr h) e = received_at a (fold t x.bodies) us u vs bs h.more e
 
 -- batches have clocks of their own
 
@@ -53,7 +54,7 @@ module _ (s : State) (r : Run) (c : ℕ) (kept : Kept s r c) (formed : IsFormed 
   -- an update that took this batch leads where its operations lead
   leads : (us : List Update) (u : Update) (vs : List Update) (b : Batch) → updates_of r.log ≡ us ++ u ∷ vs → Accepts r c u b → fold (tree_after s.tree us) u.bodies ≡ fold (tree_after s.tree us) b.bodies
   leads us u vs b e h =
-      let t = took_at (actor (account r.world c)) s.tree us u vs (issued_of c r.issued) (subst (λ (x : List Update). Once (actor (account r.world c)) s.tree x (issued_of c r.issued)) e kept.once) h.actor in
+      let t = received_at (actor (account r.world c)) s.tree us u vs (issued_of c r.issued) (subst (λ (x : List Update). Once (actor (account r.world c)) s.tree x (issued_of c r.issued)) e kept.once) h.actor in
       let same : t.batch ≡ b = same_batch 0 (issued_of c r.issued) t.batch b kept.runs t.issued h.issued (sym t.first ∙ h.first) in
       ap (fold (tree_after s.tree us)) t.bodies ∙ fold_settled (tree_after s.tree us) (formed_after s.tree formed us) t.batch.bodies ∙ ap (λ (z : Batch). fold (tree_after s.tree us) z.bodies) same
 

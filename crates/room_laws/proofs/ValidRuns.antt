@@ -15,8 +15,8 @@ use Rattle.room_model.specs.Lines as lines
 use Rattle.room_model.specs.Server
 use Rattle.room_model.specs.Sound.{IsSound}
 use Rattle.room_model.specs.World
-use Rattle.room_model.specs.World.{Conn, Seat, Stepped, state_in}
-use Rattle.room_model.specs.Run.{Run, seat_in, line, run, opened}
+use Rattle.room_model.specs.World.{Conn, Slot, Stepped, state_in, slot_in}
+use Rattle.room_model.specs.Run.{Run, line, run, opened}
 use Rattle.room_laws.specs.Accounts.{KeepsSound}
 use Rattle.room_laws.specs.Invariant.{conn_in}
 use Rattle.room_laws.specs.Laws.{ReadsBack}
@@ -66,8 +66,8 @@ module _ (keep : KeepsSound) (items : ItemsOfValid) where
     world = record {
       host = record { state = h; limits = record { updates = omega arith; sessions = omega arith }; links = λ k l e. absurd (none_some l (sym (get_none k) ∙ e)) };
       limits = record { updates = omega arith; sessions = omega arith };
-      clients = λ c. subst (λ (o : Option Seat). IsSound (seat_in o).account) (sym (get_none c)) (keep.new World.room room_utf8);
-      conns = λ k. subst (λ (o : Option Conn). IsSoundConn (conn_in o)) (sym (get_none k)) (record { up = tt; down = tt });
+      clients = λ c. subst (λ (o : Option Slot). IsSound (slot_in o).account) (sym (get_none c)) (keep.new World.room room_utf8);
+      conns = λ k. subst (λ (o : Option Conn). IsSoundConn (conn_in o)) (sym (get_none k)) (record { inbound = tt; outbound = tt });
       opened = omega arith;
     };
     log = tt;

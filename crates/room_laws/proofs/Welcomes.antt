@@ -7,9 +7,9 @@ use Rattle.room_msg.specs.declared.messages.Resume.{Resume}
 use Rattle.room_msg.specs.declared.messages.ServerMsg.TheVariants as server
 use Rattle.room_log.specs.Log.{State, Session, Update, last_of, last_in, session_of, updates_of}
 use Rattle.room_model.specs.Account.{Dialled, Connected, Synced}
-use Rattle.room_model.specs.Server.{Down, Message, Closed, Link, Up, has_session}
-use Rattle.room_model.specs.World.{state_in}
-use Rattle.room_model.specs.Run.{Run, seat, all_given, IsUndisturbed}
+use Rattle.room_model.specs.Server.{Outbound, Message, Closed, Link, Inbound, has_session}
+use Rattle.room_model.specs.World.{state_in, slot}
+use Rattle.room_model.specs.Run.{Run, all_given, IsUndisturbed}
 use Rattle.room_laws.specs.Ledger.{Silent}
 use Rattle.room_laws.specs.Core.{actor}
 use Rattle.room_laws.specs.Queues.{Place, IsOn, Waits}
@@ -57,7 +57,7 @@ silent_within a n [] l w = tt
 silent_within a n (u ∷ us) l w = record { other = λ e. absurd (omega (arith, w.actor)); more = silent_within a n us l w.more }
 
 -- the connection that is welcomed
-module _ (s : State) (us : List Update) (ss ts : List Session) (given more : List (ℕ × Option ℕ)) (c : ℕ) (session : Option Resume) (here : Place) (q : List Down) (l l' : Link) (w : Resume) (users : List (ℕ × List ℕ)) where
+module _ (s : State) (us : List Update) (ss ts : List Session) (given more : List (ℕ × Option ℕ)) (c : ℕ) (session : Option Resume) (here : Place) (q : List Outbound) (l l' : Link) (w : Resume) (users : List (ℕ × List ℕ)) where
   pub present_room : l.actor ≡ None → l'.actor ≡ Some w.actor → l'.fetched ≡ false → last_of s.sessions w.actor ≡ 0
       → (session ≡ Some w) ⊎ record { unknown : session ≡ None; new : all_given c w.actor (given ++ more) ≡ true → Invariant.New s (us ++ []) ts w }
       → Invariant.Present s us ss given c session here q (Some l)
@@ -73,34 +73,34 @@ module _ (s : State) (us : List Update) (ss ts : List Session) (given more : Lis
         begun = begun;
         end = record (grown [] here) { stage = Connected };
         waits = rw k.empty (record { next = record (grown [] here) { stage = Connected }; says = record { before = k.dialled; mine = refl; place = refl }; more = refl });
-        linked = inr (record { resume = w; some = refl; actor = actor; on = tt; whole = ap (λ (o : Place). o.parts) (subst (λ (d : List Down). Waits s p.who here d p.end) k.empty p.waits) ∙ k.whole; fetched = λ i. absurd (no (sym fetched ∙ i)) });
+        linked = inr (record { resume = w; some = refl; actor = actor; on = tt; whole = ap (λ (o : Place). o.parts) (subst (λ (d : List Outbound). Waits s p.who here d p.end) k.empty p.waits) ∙ k.whole; fetched = λ i. absurd (no (sym fetched ∙ i)) });
       }
         where
           no : false ≡ true → ⊥
           no i = cc
 
 -- What becomes of the connections: k is given w, others that hold it are closed, and all others are told.
-module _ (s : State) (r t : Run) (k : ℕ) (l l' : Link) (w : Resume) (users : List (ℕ × List ℕ)) (sends : ℕ → List Down) (ups : ℕ → List Up) (st : Invariant.Inv s r)
-    (seats : (d : ℕ) → seat t.world d ≡ seat r.world d)
+module _ (s : State) (r t : Run) (k : ℕ) (l l' : Link) (w : Resume) (users : List (ℕ × List ℕ)) (sends : ℕ → List Outbound) (inbounds : ℕ → List Inbound) (st : Invariant.Inv s r)
+    (slots : (d : ℕ) → slot t.world d ≡ slot r.world d)
     (batches : (d : ℕ) → Invariant.issued_by t d ≡ Invariant.issued_by r d)
     (opened : t.world.opened ≡ r.world.opened)
     (log : updates_of t.log ≡ updates_of r.log)
     (given_is : t.given ≡ r.given ++ (w.actor, (Invariant.conn r.world k).owner) ∷ [])
     (hosts : Invariant.Hosts t.world.host)
     (logged : Invariant.Logged s (updates_of r.log) (state_in t.world.host))
-    (conns : (j : ℕ) → Invariant.conn t.world j ≡ fed (Invariant.conn r.world j) (ups j) (sends j))
+    (conns : (j : ℕ) → Invariant.conn t.world j ≡ fed (Invariant.conn r.world j) (inbounds j) (sends j))
     (there : (j : ℕ) → is_some (get r.world.conns j) ≡ true → is_some (get t.world.conns j) ≡ true)
-    (unopened : (j : ℕ) → r.world.opened < j → ups j ≡ [])
+    (unopened : (j : ℕ) → r.world.opened < j → inbounds j ≡ [])
     (attached : Invariant.link r.world k ≡ Some l) (bare : l.actor ≡ None)
     (now : Invariant.link t.world k ≡ Some l') (actor_is : l'.actor ≡ Some w.actor) (fetched : l'.fetched ≡ false)
     (positive : 0 < w.actor) (within : w.actor ≤ length (Invariant.sessions t)) (many : length (Invariant.sessions r) ≤ length (Invariant.sessions t))
     (lasts : (b : ℕ) → last_of (Invariant.sessions t) b ≡ last_of (Invariant.sessions r) b)
     (stands : (v : Resume) → Invariant.Stands s (Invariant.sessions r) v → Invariant.Stands s (Invariant.sessions t) v)
     (sent : sends k ≡ Message (server.RoomState w.actor w.key users) ∷ [])
-    (else : (j : ℕ) → (j ≡ k → ⊥) → ((Invariant.link t.world j ≡ Invariant.link r.world j) × (sends j ≡ passes has_session (Message (server.Joined w.actor)) (Invariant.link r.world j)) × (ups j ≡ (Invariant.conn r.world j).up))
-    ⊎ ((Invariant.link t.world j ≡ None) × (ups j ≡ []) × ((code : ℕ) × ((text : List ℕ) × (sends j ≡ Closed code text ∷ [])))))
+    (else : (j : ℕ) → (j ≡ k → ⊥) → ((Invariant.link t.world j ≡ Invariant.link r.world j) × (sends j ≡ passes has_session (Message (server.Joined w.actor)) (Invariant.link r.world j)) × (inbounds j ≡ (Invariant.conn r.world j).inbound))
+    ⊎ ((Invariant.link t.world j ≡ None) × (inbounds j ≡ []) × ((code : ℕ) × ((text : List ℕ) × (sends j ≡ Closed code text ∷ [])))))
     -- an undisturbed client's hello was the only frame; its session goes on, or it has none yet and this one is new
-    (popped : (d : ℕ) → (Invariant.conn r.world k).owner ≡ Some d → IsUndisturbed r d → (ups k ≡ []) × (((seat r.world d).present ≡ Some k) → last_of s.sessions w.actor ≡ 0) × (((seat r.world d).present ≡ Some k) → ((Invariant.core_of r.world d).session ≡ Some w) ⊎ (((Invariant.core_of r.world d).session ≡ None) × Invariant.New s (updates_of r.log) (Invariant.sessions t) w))) where
+    (popped : (d : ℕ) → (Invariant.conn r.world k).owner ≡ Some d → IsUndisturbed r d → (inbounds k ≡ []) × (((slot r.world d).present ≡ Some k) → last_of s.sessions w.actor ≡ 0) × (((slot r.world d).present ≡ Some k) → ((Invariant.core_of r.world d).session ≡ Some w) ⊎ (((Invariant.core_of r.world d).session ≡ None) × Invariant.New s (updates_of r.log) (Invariant.sessions t) w))) where
   abbrev us : List Update
   us = updates_of r.log
 
@@ -113,32 +113,32 @@ module _ (s : State) (r t : Run) (k : ℕ) (l l' : Link) (w : Resume) (users : L
   joined_said : (j : ℕ) → SaidTo (Invariant.link r.world j) (passes has_session (Message (server.Joined w.actor)) (Invariant.link r.world j))
   joined_said j = passes_said (Message (server.Joined w.actor)) (Invariant.link r.world j) (λ s w p on. record { on = on; place = refl })
 
-  said_at : (d : ℕ) (session : Option Resume) (here : Place) (q ms : List Down) (o : Option Link) → session ≡ (Invariant.core_of r.world d).session → SaidTo o ms
+  said_at : (d : ℕ) (session : Option Resume) (here : Place) (q ms : List Outbound) (o : Option Link) → session ≡ (Invariant.core_of r.world d).session → SaidTo o ms
       → Invariant.Present s us (Invariant.sessions r) r.given d session here q o → Invariant.Present s (us ++ []) (Invariant.sessions t) (r.given ++ more) d session (grown [] here) (q ++ ms) o
   said_at d session here q ms None e f p = rw (f.bare tt) (present_left s us (Invariant.sessions r) r.given more d session here q [] (Invariant.sessions t) None (λ v z u n. stays d v (sym e ∙ z) u n) p)
   said_at d session here q ms (Some m) e f p = present_said s us (Invariant.sessions r) r.given more d session here q (Invariant.sessions t) ms m (λ v z u n. stays d v (sym e ∙ z) u n) f.bare f.said p
 
-  present_at : (d j : ℕ) → IsUndisturbed r d → (seat r.world d).present ≡ Some j → (here : Place) → (j ≡ k) ⊎ (j ≡ k → ⊥)
-      → Invariant.Present s us (Invariant.sessions r) r.given d (Invariant.core_of r.world d).session here (Invariant.conn r.world j).down (Invariant.link r.world j)
-      → Invariant.Present s (us ++ []) (Invariant.sessions t) (r.given ++ more) d (Invariant.core_of r.world d).session (grown [] here) ((Invariant.conn r.world j).down ++ sends j) (Invariant.link t.world j)
+  present_at : (d j : ℕ) → IsUndisturbed r d → (slot r.world d).present ≡ Some j → (here : Place) → (j ≡ k) ⊎ (j ≡ k → ⊥)
+      → Invariant.Present s us (Invariant.sessions r) r.given d (Invariant.core_of r.world d).session here (Invariant.conn r.world j).outbound (Invariant.link r.world j)
+      → Invariant.Present s (us ++ []) (Invariant.sessions t) (r.given ++ more) d (Invariant.core_of r.world d).session (grown [] here) ((Invariant.conn r.world j).outbound ++ sends j) (Invariant.link t.world j)
   present_at d j u e here (inl i) p =
-      let at_k : (seat r.world d).present ≡ Some k = e ∙ ap Some i in
+      let at_k : (slot r.world d).present ≡ Some k = e ∙ ap Some i in
       let f = popped d (st.shape.present d k at_k).owner u in
-      rw i (rw (sent, now) (present_room s us (Invariant.sessions r) (Invariant.sessions t) r.given more d (Invariant.core_of r.world d).session here (Invariant.conn r.world k).down l l' w users bare actor_is fetched (f.1 at_k)
+      rw i (rw (sent, now) (present_room s us (Invariant.sessions r) (Invariant.sessions t) r.given more d (Invariant.core_of r.world d).session here (Invariant.conn r.world k).outbound l l' w users bare actor_is fetched (f.1 at_k)
       (⊎_elim (λ g. inl g) (λ g. inr (record { unknown = g.0; new = λ z. rw (append-nil us) g.1 })) (f.2 at_k))
-      (subst (λ (o : Option Link). Invariant.Present s us (Invariant.sessions r) r.given d (Invariant.core_of r.world d).session here (Invariant.conn r.world k).down o) attached
-      (subst (λ n. Invariant.Present s us (Invariant.sessions r) r.given d (Invariant.core_of r.world d).session here (Invariant.conn r.world n).down (Invariant.link r.world n)) i p))))
+      (subst (λ (o : Option Link). Invariant.Present s us (Invariant.sessions r) r.given d (Invariant.core_of r.world d).session here (Invariant.conn r.world k).outbound o) attached
+      (subst (λ n. Invariant.Present s us (Invariant.sessions r) r.given d (Invariant.core_of r.world d).session here (Invariant.conn r.world n).outbound (Invariant.link r.world n)) i p))))
   present_at d j u e here (inr i) p = ⊎_elim
-      (λ f. rw (f.0, f.1) (said_at d (Invariant.core_of r.world d).session here (Invariant.conn r.world j).down (passes has_session (Message (server.Joined w.actor)) (Invariant.link r.world j)) (Invariant.link r.world j) refl (joined_said j) p))
-      (λ f. rw (f.0, f.2.1.1) (present_closed s us (Invariant.sessions r) r.given more d (Invariant.core_of r.world d).session here (Invariant.conn r.world j).down (Invariant.sessions t) f.2.0 f.2.1.0 (Invariant.link r.world j) (stays d) p))
+      (λ f. rw (f.0, f.1) (said_at d (Invariant.core_of r.world d).session here (Invariant.conn r.world j).outbound (passes has_session (Message (server.Joined w.actor)) (Invariant.link r.world j)) (Invariant.link r.world j) refl (joined_said j) p))
+      (λ f. rw (f.0, f.2.1.1) (present_closed s us (Invariant.sessions r) r.given more d (Invariant.core_of r.world d).session here (Invariant.conn r.world j).outbound (Invariant.sessions t) f.2.0 f.2.1.0 (Invariant.link r.world j) (stays d) p))
       (else j i)
 
-  tried_le : (d : ℕ) → IsUndisturbed r d → (o : Option ℕ) → (seat r.world d).present ≡ o → o ≡ Some k → Invariant.tried (Invariant.core_of r.world d) ≤ last_of (Invariant.sessions r) (actor (Invariant.core_of r.world d))
+  tried_le : (d : ℕ) → IsUndisturbed r d → (o : Option ℕ) → (slot r.world d).present ≡ o → o ≡ Some k → Invariant.tried (Invariant.core_of r.world d) ≤ last_of (Invariant.sessions r) (actor (Invariant.core_of r.world d))
   tried_le d u o e i =
       let h = st.client d u in
-      let p : Invariant.Present s us (Invariant.sessions r) r.given d (Invariant.core_of r.world d).session (Invariant.place (Invariant.core_of r.world d) h.done h.coming) (Invariant.conn r.world k).down (Some l) =
-      subst (λ (m : Option Link). Invariant.Present s us (Invariant.sessions r) r.given d (Invariant.core_of r.world d).session (Invariant.place (Invariant.core_of r.world d) h.done h.coming) (Invariant.conn r.world k).down m) attached
-      (subst (λ (n : Option ℕ). Invariant.Seated s us (Invariant.sessions r) r.given d n (Invariant.core_of r.world d).session (Invariant.place (Invariant.core_of r.world d) h.done h.coming) (Invariant.present_down r.world n) (Invariant.present_link r.world n)) (e ∙ i) h.seated) in
+      let p : Invariant.Present s us (Invariant.sessions r) r.given d (Invariant.core_of r.world d).session (Invariant.place (Invariant.core_of r.world d) h.done h.coming) (Invariant.conn r.world k).outbound (Some l) =
+      subst (λ (m : Option Link). Invariant.Present s us (Invariant.sessions r) r.given d (Invariant.core_of r.world d).session (Invariant.place (Invariant.core_of r.world d) h.done h.coming) (Invariant.conn r.world k).outbound m) attached
+      (subst (λ (n : Option ℕ). Invariant.Standing s us (Invariant.sessions r) r.given d n (Invariant.core_of r.world d).session (Invariant.place (Invariant.core_of r.world d) h.done h.coming) (Invariant.present_outbound r.world n) (Invariant.present_link r.world n)) (e ∙ i) h.standing) in
       let told = (rest_is s us (last_of (Invariant.sessions r) (actor (Invariant.core_of r.world d))) (Invariant.core_of r.world d) (Invariant.issued_by r d) h.done h.coming h.own).above in
       ⊎_elim
       (λ g. ⊎_elim (λ sync. absurd (no (sym g.dialled ∙ sync))) (λ none. rw none told) h.own.unsent)
@@ -148,19 +148,19 @@ module _ (s : State) (r t : Run) (k : ℕ) (l l' : Link) (w : Resume) (users : L
       no : Dialled ≡ Synced → ⊥
       no i = cc
 
-  ups_at : (d j : ℕ) → (j ≡ k) ⊎ (j ≡ k → ⊥) → (Invariant.conn r.world j).owner ≡ Some d → IsUndisturbed r d
-      → Invariant.Ups ((seat r.world d).present ≡ Some j) (Invariant.core_of r.world d).session (Invariant.tried (Invariant.core_of r.world d)) (Invariant.issued_by r d)
-      (last_of (Invariant.sessions t) (actor (Invariant.core_of r.world d))) (Invariant.link t.world j) (ups j)
-  ups_at d j (inl i) o u =
+  inbounds_at : (d j : ℕ) → (j ≡ k) ⊎ (j ≡ k → ⊥) → (Invariant.conn r.world j).owner ≡ Some d → IsUndisturbed r d
+      → Invariant.Inbounds ((slot r.world d).present ≡ Some j) (Invariant.core_of r.world d).session (Invariant.tried (Invariant.core_of r.world d)) (Invariant.issued_by r d)
+      (last_of (Invariant.sessions t) (actor (Invariant.core_of r.world d))) (Invariant.link t.world j) (inbounds j)
+  inbounds_at d j (inl i) o u =
       let f = popped d (subst (λ n. (Invariant.conn r.world n).owner ≡ Some d) i o) u in
       rw i (rw (now, f.0) (rw actor_is (record {
         some = positive;
         reach = last_of (Invariant.sessions t) (actor (Invariant.core_of r.world d));
         order = refl;
-        sent = λ n. rw (lasts (actor (Invariant.core_of r.world d))) (tried_le d u (seat r.world d).present refl n);
+        sent = λ n. rw (lasts (actor (Invariant.core_of r.world d))) (tried_le d u (slot r.world d).present refl n);
       })))
-  ups_at d j (inr i) o u = ⊎_elim
-      (λ f. rw (f.0, f.2, lasts (actor (Invariant.core_of r.world d))) (st.ups d j o u))
+  inbounds_at d j (inr i) o u = ⊎_elim
+      (λ f. rw (f.0, f.2, lasts (actor (Invariant.core_of r.world d))) (st.inbounds d j o u))
       (λ f. rw (f.0, f.1) refl)
       (else j i)
 
@@ -169,8 +169,8 @@ module _ (s : State) (r t : Run) (k : ℕ) (l l' : Link) (w : Resume) (users : L
   link_at j m (inr i) e = inr (⊎_elim (λ f. sym f.0 ∙ e) (λ f. absurd (none_some m (sym f.0 ∙ e))) (else j i))
 
   pub keeps_welcome : Invariant.Inv s t
-  keeps_welcome = served s r t [] more sends ups st (record {
-    seats = seats;
+  keeps_welcome = served s r t [] more sends inbounds st (record {
+    slots = slots;
     batches = batches;
     opened = opened;
     log = log ∙ sym (append-nil us);
@@ -195,5 +195,5 @@ module _ (s : State) (r t : Run) (k : ℕ) (l l' : Link) (w : Resume) (users : L
         (subst (λ n. Invariant.Own s us n (Invariant.core_of r.world d) (Invariant.issued_by r d) h.done h.coming) (sym (lasts (actor (Invariant.core_of r.world d)))) h.own);
     stands = stands;
     presents = λ d j u e here z h p. present_at d j (given_before d (actor (Invariant.core_of r.world d)) r.given more u) e here (cases_eq j k) p;
-    ups_are = λ d j o u. ups_at d j (cases_eq j k) o (given_before d (actor (Invariant.core_of r.world d)) r.given more u);
+    inbounds_are = λ d j o u. inbounds_at d j (cases_eq j k) o (given_before d (actor (Invariant.core_of r.world d)) r.given more u);
   })

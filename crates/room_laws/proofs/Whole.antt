@@ -6,19 +6,20 @@ use Rattle.room_items.specs.Items.{tree_in, items_of}
 use Rattle.room_log.specs.Log.{State, Update, updates_of}
 use Rattle.room_model.specs.Lines as lines
 use Rattle.room_model.specs.World
-use Rattle.room_model.specs.Run.{Run, seat, seat_in, with_step, run, line, opened}
+use Rattle.room_model.specs.World.{slot, slot_in, account}
+use Rattle.room_model.specs.Run.{Run, with_step, run, line, opened}
 use Rattle.room_laws.specs.Core.{core}
 use Rattle.room_laws.specs.Invariant
 use Rattle.room_laws.specs.Laws.{ReadsBack, IsReadable, EachShows, EachOnce}
 use Rattle.room_laws.proofs.Maps.{get_none}
-use Rattle.room_laws.proofs.ClientLines.{keeps_of_client}
+use Rattle.room_laws.proofs.ClientLines.{keeps_client_calls}
 use Rattle.room_laws.proofs.OwnLines.{keeps_saying}
-use Rattle.room_laws.proofs.Downs.{keeps_down}
+use Rattle.room_laws.proofs.Outbounds.{keeps_outbound}
 use Rattle.room_laws.proofs.Leaving.{keeps_gone}
 use Rattle.room_laws.proofs.Links.{keeps_link, keeps_raw}
 use Rattle.room_laws.proofs.Stops.{keeps_fuse, keeps_stop, keeps_compact, keeps_limit, keeps_start}
 use Rattle.room_laws.proofs.RunSteps.{updates_of-append}
-use Rattle.room_laws.proofs.Frame.{keeps_up}
+use Rattle.room_laws.proofs.Frame.{keeps_inbound}
 use Rattle.room_laws.proofs.Follows.{kept, shows}
 use Rattle.room_laws.proofs.Facts.{none_some}
 
@@ -40,62 +41,47 @@ module _ (s : State) where
   lift : (r : Run) (out : World.Stepped) → (Invariant.Inv s r → Invariant.Inv s (with_step r out)) → Good s r → Good s (with_step r out)
   lift r out f g h = f (g (log_before s r out h))
 
-  up : (r : Run) (k : ℕ) → Good s r → Good s (with_step r (World.goes_up r.world k))
-  up r k g h = keeps_up s r k (g (log_before s r (World.goes_up r.world k) h)) h
+  inbound : (r : Run) (k : ℕ) → Good s r → Good s (with_step r (World.server_receives r.world k))
+  inbound r k g h = keeps_inbound s r k (g (log_before s r (World.server_receives r.world k) h)) h
 
   saying : (r : Run) (ls : List (List ℕ)) → Good s r → Good s (with_step r (World.saying r.world ls))
   saying r ls = lift r (World.saying r.world ls) (keeps_saying s r ls)
 
   drain_step_keeps : (r : Run) (number : ℕ) (a b : Option ℕ) → Good s r → Good s (with_step r (World.or_quiet r.world (World.drain_step r.world number a b)))
-  drain_step_keeps r number (Some k) b st = up r k st
-  drain_step_keeps r number None (Some k) st = lift r (World.comes_down r.world number k) (λ i. keeps_down s r number k i) st
+  drain_step_keeps r number (Some k) b st = inbound r k st
+  drain_step_keeps r number None (Some k) st = lift r (World.peer_receives r.world number k) (λ i. keeps_outbound s r number k i) st
   drain_step_keeps r number None None st = saying r [] st
-
-  drain_from_keeps : (r : Run) (number n : ℕ) (so_far : World.Stepped) → Good s (with_step r so_far) → Good s (with_step r (World.drain_from n number so_far))
-  drain_from_keeps r number zero so_far st = st
-  drain_from_keeps r number (suc n) so_far st =
-      let w = so_far.world in
-      drain_from_keeps r number n (World.then_stepped so_far (World.or_quiet w (World.drain_next w number)))
-      (twice s r so_far (World.or_quiet w (World.drain_next w number))
-      (drain_step_keeps (with_step r so_far) number (World.least World.has_up (entries w.conns)) (World.least World.has_down (entries w.conns)) st))
 
   keeps_drain : (r : Run) (number n : ℕ) → Good s r → Good s (with_step r (World.drain r.world number n))
   unfolding World.drain
-  keeps_drain r number n st = drain_from_keeps r number n (World.quiet r.world) (saying r [] st)
+  keeps_drain r number zero st = saying r [] st
+  keeps_drain r number (suc n) st =
+      let out = World.drain_once r.world number in
+      let once = drain_step_keeps r number (World.least World.has_inbound (entries r.world.conns)) (World.least World.has_outbound (entries r.world.conns)) st in
+      twice s r out (World.drain out.world number n) (keeps_drain (with_step r out) number n once)
+
+  keeps_conn : (r : Run) (number k : ℕ) (traffic : lines.Traffic) → Good s r → Good s (with_step r (World.conn_line r.world number k traffic))
+  keeps_conn r number k lines.Up st = inbound r k st
+  keeps_conn r number k lines.Down st = lift r (World.peer_receives r.world number k) (λ i. keeps_outbound s r number k i) st
+  keeps_conn r number k lines.Gone st = lift r (World.quiet (World.goes r.world k)) (λ i. keeps_gone s r k i) st
+  keeps_conn r number k (lines.Raw text) st = lift r (World.conn_line r.world number k (lines.Raw text)) (λ i. keeps_raw s r i k text) st
+
+  keeps_server : (r : Run) (service : lines.Service) → Invariant.Inv s r → Invariant.Inv s (with_step r (World.server_line r.world service))
+  keeps_server r lines.Stop i = keeps_stop s r i
+  keeps_server r lines.Start i = keeps_start s r i
+  keeps_server r (lines.Fuse n how) i = keeps_fuse s r i (record { left = n; how = how })
+  keeps_server r lines.Compact i = keeps_compact s r i
+  keeps_server r (lines.Limit updates sessions) i = keeps_limit s r i (record { updates = updates; sessions = sessions })
+  keeps_server r lines.ShowServer i = keeps_saying s r (World.server_shown r.world.host ∷ []) i
+  keeps_server r lines.BriefServer i = keeps_saying s r (World.server_brief r.world.host ∷ []) i
 
   pub keeps : (r : Run) (number : ℕ) (l : lines.Line) → Good s r → Good s (line r number l)
-  keeps r number (lines.Dial c) st = lift r (World.step r.world number (lines.Dial c)) (keeps_of_client s r number c (lines.Dial c)) st
-  keeps r number (lines.Edits c e) st = lift r (World.step r.world number (lines.Edits c e)) (keeps_of_client s r number c (lines.Edits c e)) st
-  keeps r number (lines.Begin c) st = lift r (World.step r.world number (lines.Begin c)) (keeps_of_client s r number c (lines.Begin c)) st
-  keeps r number (lines.End c) st = lift r (World.step r.world number (lines.End c)) (keeps_of_client s r number c (lines.End c)) st
-  keeps r number (lines.Undo c) st = lift r (World.step r.world number (lines.Undo c)) (keeps_of_client s r number c (lines.Undo c)) st
-  keeps r number (lines.Redo c) st = lift r (World.step r.world number (lines.Redo c)) (keeps_of_client s r number c (lines.Redo c)) st
-  keeps r number (lines.Pause c) st = lift r (World.step r.world number (lines.Pause c)) (keeps_of_client s r number c (lines.Pause c)) st
-  keeps r number (lines.Resume c) st = lift r (World.step r.world number (lines.Resume c)) (keeps_of_client s r number c (lines.Resume c)) st
-  keeps r number (lines.Clear c) st = lift r (World.step r.world number (lines.Clear c)) (keeps_of_client s r number c (lines.Clear c)) st
-  keeps r number (lines.Presence c patch in_history) st = lift r (World.step r.world number (lines.Presence c patch in_history)) (keeps_of_client s r number c (lines.Presence c patch in_history)) st
-  keeps r number (lines.Event c e) st = lift r (World.step r.world number (lines.Event c e)) (keeps_of_client s r number c (lines.Event c e)) st
-  keeps r number (lines.Flush c) st = lift r (World.step r.world number (lines.Flush c)) (keeps_of_client s r number c (lines.Flush c)) st
-  keeps r number (lines.Resend c) st = lift r (World.step r.world number (lines.Resend c)) (keeps_of_client s r number c (lines.Resend c)) st
-  keeps r number (lines.Cut c) st = lift r (World.step r.world number (lines.Cut c)) (keeps_of_client s r number c (lines.Cut c)) st
-  keeps r number (lines.Show (lines.AClient c)) st = lift r (World.step r.world number (lines.Show (lines.AClient c))) (keeps_of_client s r number c (lines.Show (lines.AClient c))) st
-  keeps r number (lines.Show lines.TheServer) st = saying r (World.server_shown r.world.host ∷ []) st
-  keeps r number (lines.Brief (lines.AClient c)) st = lift r (World.step r.world number (lines.Brief (lines.AClient c))) (keeps_of_client s r number c (lines.Brief (lines.AClient c))) st
-  keeps r number (lines.Brief lines.TheServer) st = saying r (World.server_brief r.world.host ∷ []) st
-  keeps r number (lines.Others c) st = lift r (World.step r.world number (lines.Others c)) (keeps_of_client s r number c (lines.Others c)) st
-  keeps r number (lines.HistoryOf c) st = lift r (World.step r.world number (lines.HistoryOf c)) (keeps_of_client s r number c (lines.HistoryOf c)) st
-  keeps r number (lines.NoticesOf c) st = lift r (World.step r.world number (lines.NoticesOf c)) (keeps_of_client s r number c (lines.NoticesOf c)) st
-  keeps r number (lines.Goes_up k) st = up r k st
-  keeps r number (lines.Comes_down k) st = lift r (World.step r.world number (lines.Comes_down k)) (λ i. keeps_down s r number k i) st
+  keeps r number (lines.OfClient c call) st = lift r (World.client_calls r.world number c (slot r.world c) call) (λ i. keeps_client_calls s r number c i call) st
+  keeps r number (lines.AsksClient c question) st = saying r (lines.answer_line (Some c) (account r.world c) (slot r.world c).noticed question ∷ []) st
+  keeps r number (lines.OfConnection k traffic) st = keeps_conn r number k traffic st
+  keeps r number (lines.OfServer service) st = lift r (World.server_line r.world service) (keeps_server r service) st
   keeps r number (lines.Drain n) st = keeps_drain r number n st
-  keeps r number (lines.Gone k) st = lift r (World.step r.world number (lines.Gone k)) (λ i. keeps_gone s r k i) st
-  keeps r number lines.Stop st = lift r (World.step r.world number lines.Stop) (λ i. keeps_stop s r i) st
-  keeps r number lines.Start st = lift r (World.step r.world number lines.Start) (λ i. keeps_start s r i) st
-  keeps r number (lines.Fuse n how) st = lift r (World.step r.world number (lines.Fuse n how)) (λ i. keeps_fuse s r i (record { left = n; how = how })) st
-  keeps r number lines.Compact st = lift r (World.step r.world number lines.Compact) (λ i. keeps_compact s r i) st
-  keeps r number (lines.Limit updates sessions) st = lift r (World.step r.world number (lines.Limit updates sessions)) (λ i. keeps_limit s r i (record { updates = updates; sessions = sessions })) st
-  keeps r number lines.Link st = lift r (World.step r.world number lines.Link) (λ i. keeps_link s r i) st
-  keeps r number (lines.Raw k text) st = lift r (World.step r.world number (lines.Raw k text)) (λ i. keeps_raw s r i k text) st
+  keeps r number lines.Link st = lift r (World.quiet (World.open_conn r.world None)) (λ i. keeps_link s r i) st
 
   pub keeps_all : (ls : List (ℕ × lines.Line)) (r : Run) → Good s r → Good s (run r ls)
   keeps_all [] r st = st
@@ -106,9 +92,9 @@ pub begins : (s : State) → tree_in (items_of s.tree) ≡ Some s.tree → Invar
 begins s spelled = record {
   shape = record {
     hosts = record { room = refl; access = refl; free = λ k l e. absurd (none_some l (sym (get_none k) ∙ e)) };
-    present = λ c k e. absurd (none_some k (sym (ap (λ (y : World.Seat). y.present) (new_seat_is c)) ∙ e));
+    present = λ c k e. absurd (none_some k (sym (ap (λ (y : World.Slot). y.present) (new_slot_is c)) ∙ e));
     heard = λ c k o. absurd (none_some c (sym (ap (λ (q : World.Conn). q.owner) (no_conn_is k)) ∙ o.owner));
-    deaf = λ k e. ap (λ (q : World.Conn). q.down) (no_conn_is k);
+    deaf = λ k e. ap (λ (q : World.Conn). q.outbound) (no_conn_is k);
     unlinked = λ k e. get_none k;
     unopened = λ k e. no_conn_is k;
     there = λ k l e. absurd (none_some l (sym (get_none k) ∙ e));
@@ -117,24 +103,24 @@ begins s spelled = record {
   given = λ k a l e f d g. absurd (none_some l (sym (get_none k) ∙ e));
   actors = λ k a l e f. absurd (none_some l (sym (get_none k) ∙ e));
   nobody = λ c. refl;
-  client = λ c u. subst (λ (y : World.Seat). Invariant.Client s [] s.sessions [] c y.present (core y.account) [] (Invariant.present_down (World.opening s) y.present) (Invariant.present_link (World.opening s) y.present)) (sym (new_seat_is c)) (record {
+  client = λ c u. subst (λ (y : World.Slot). Invariant.Client s [] s.sessions [] c y.present (core y.account) [] (Invariant.present_outbound (World.opening s) y.present) (Invariant.present_link (World.opening s) y.present)) (sym (new_slot_is c)) (record {
     done = [];
     coming = [];
     own = record {
       room = refl;
       whole = refl;
       shows = record { unsynced = λ e. cc; none = refl; nothing = refl };
-      ledger = record { accepted = []; rest = []; all_is = refl; last_is = refl; chain = record {}; took = record { same = refl; clock = refl }; takes = record { same = refl; clock = refl } };
+      ledger = record { accepted = []; rest = []; all_is = refl; last_is = refl; chain = record {}; received = record { same = refl; clock = refl }; takes = record { same = refl; clock = refl } };
       unsent = inr refl;
     };
     stands = tt;
-    seated = record { idle = refl; bare = refl };
+    standing = record { idle = refl; bare = refl };
   });
-  ups = λ c k o u. absurd (none_some c (sym (ap (λ (q : World.Conn). q.owner) (no_conn_is k)) ∙ o));
+  inbounds = λ c k o u. absurd (none_some c (sym (ap (λ (q : World.Conn). q.owner) (no_conn_is k)) ∙ o));
 }
   where
-    new_seat_is : (c : ℕ) → seat (World.opening s) c ≡ World.new_seat
-    new_seat_is c = ap seat_in (get_none c)
+    new_slot_is : (c : ℕ) → slot (World.opening s) c ≡ World.new_slot
+    new_slot_is c = ap slot_in (get_none c)
 
     no_conn_is : (k : ℕ) → Invariant.conn (World.opening s) k ≡ Invariant.no_conn
     no_conn_is k = ap Invariant.conn_in (get_none k)

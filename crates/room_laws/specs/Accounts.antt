@@ -13,8 +13,8 @@ use Rattle.room_msg.specs.declared.messages.ServerMsg.TheVariants as server
 use Rattle.room_log.specs.Follows.{IsKey, most, most_actor}
 use Rattle.room_model.specs.Edits.{Edit}
 use Rattle.room_model.specs.Account.{Account, new_account, most_bytes}
-use Rattle.room_model.specs.Calls.{Done, Way, lost, dialled, edit, batch_begin, batch_end, go_back, pause as pauses, resume as resumes, clear as clears, presence, event, flushed, resent, presence_size}
-use Rattle.room_model.specs.Comes.{Took, comes}
+use Rattle.room_model.specs.Calls.{Done, Direction, lost, dialled, edit, batch_begin, batch_end, go_back, pause as pauses, resume as resumes, clear as clears, presence, event, flushed, resent, presence_size}
+use Rattle.room_model.specs.Receive.{Received, receive}
 use Rattle.room_model.specs.Sound.{IsSound, IsSoundEdit, AreItems, IsValidTree}
 
 -- a message of a server: its numbers are in range, and its values are as deep as a text can have them
@@ -43,12 +43,15 @@ pub record KeepsSound : Type 0 where
   pub edit : (x : Account) (e : Edit) (out : Done) → IsSound x → IsSoundEdit e → edit x e ≡ Ok out → IsSound out.account
   pub batch_begin : (x y : Account) → IsSound x → batch_begin x ≡ Ok y → IsSound y
   pub batch_end : (x : Account) (out : Done) → IsSound x → batch_end x ≡ Ok out → IsSound out.account
-  pub go_back : (way : Way) (x : Account) (out : Done) → IsSound x → go_back way x ≡ Ok (Some out) → IsSound out.account
-  pub presence : (x y : Account) (patch : List (List ℕ × Value)) (in_history : Bool) → IsSound x → AreSoundMembers patch → presence x patch in_history ≡ Ok y → IsSound y
+  pub go_back : (way : Direction) (x : Account) (out : Done) → IsSound x → go_back way x ≡ Ok (Some out)
+      → IsSound out.account
+  pub presence : (x y : Account) (patch : List (List ℕ × Value)) (in_history : Bool) → IsSound x → AreSoundMembers patch
+      → presence x patch in_history ≡ Ok y → IsSound y
   pub event : (x y : Account) (e : Json) → IsSound x → IsJson (json_of e) → event x e ≡ Ok y → IsSound y
   pub pauses : (x : Account) → IsSound x → IsSound (pauses x)
   pub resumes : (x : Account) → IsSound x → IsSound (resumes x)
   pub clears : (x : Account) → IsSound x → IsSound (clears x)
   pub flushed : (x : Account) → IsSound x → IsSound (flushed x)
   pub resent : (x : Account) → IsSound x → IsSound (resent x)
-  pub comes : (x : Account) (m : ServerMsg) (out : Took) → IsSound x → IsValidServerMsg m → comes x m ≡ Ok out → IsSound out.account
+  pub receive : (x : Account) (m : ServerMsg) (out : Received) → IsSound x → IsValidServerMsg m → receive x m ≡ Ok out
+      → IsSound out.account

@@ -43,7 +43,7 @@ pub record LeadsBack (s : Nodes) (k : ℕ) (x : Account) : Type 0 where
 -- a call leaves as many entries, or one more
 pub record Leads (s : Nodes) (k : ℕ) (x : Account) : Type 0 where
   pub count : ℕ
-  pub up : count ≤ suc k
+  pub grown : count ≤ suc k
   pub leads : LeadsBack s count x
 
 abbrev pub Reverses : Nodes → List Body → Type 0
@@ -52,20 +52,32 @@ Reverses t bs = fold (fold t bs) (reverse_all t bs) ≡ t
 -- k undos in a row, each of an entry
 abbrev pub Undoes : ℕ → Account → Account → Type 0
 Undoes zero x y = x ≡ y
-Undoes (suc k) x y = record { out : calls.Done; undoes : calls.go_back calls.Undo x ≡ Ok (Some out); more : Undoes k out.account y }
+Undoes (suc k) x y = record {
+  out : calls.Done;
+  undoes : calls.go_back calls.Undo x ≡ Ok (Some out);
+  more : Undoes k out.account y;
+}
 
 pub record UndoesAlone : Type 0 where
-  pub begins : (s : Nodes) (x : Account) → shown x ≡ Some s → x.batch ≡ None → in_bag x.history.bag ≡ [] → LeadsBack s 0 x
+  pub begins : (s : Nodes) (x : Account) → shown x ≡ Some s → x.batch ≡ None → in_bag x.history.bag ≡ []
+      → LeadsBack s 0 x
   pub edit : (s : Nodes) (k : ℕ) (x : Account) (e : Edit) (out : calls.Done) → LeadsBack s k x → k < 50
-      → ((t : Nodes) (m : Made) → shown x ≡ Some t → make t (clocks x) e ≡ Ok m → Reverses t (bodies_of m.ops)) → calls.edit x e ≡ Ok out → Leads s k out.account
+      → ((t : Nodes) (m : Made) → shown x ≡ Some t → make t (clocks x) e ≡ Ok m → Reverses t (bodies_of m.ops))
+      → calls.edit x e ≡ Ok out → Leads s k out.account
   pub batch_begin : (s : Nodes) (k : ℕ) (x y : Account) → LeadsBack s k x → calls.batch_begin x ≡ Ok y → LeadsBack s k y
-  pub batch_end : (s : Nodes) (k : ℕ) (x : Account) (out : calls.Done) → LeadsBack s k x → k < 50 → calls.batch_end x ≡ Ok out → Leads s k out.account
+  pub batch_end : (s : Nodes) (k : ℕ) (x : Account) (out : calls.Done) → LeadsBack s k x → k < 50
+      → calls.batch_end x ≡ Ok out → Leads s k out.account
   pub pause : (s : Nodes) (k : ℕ) (x : Account) → LeadsBack s k x → LeadsBack s k (calls.pause x)
   pub resume : (s : Nodes) (k : ℕ) (x : Account) → LeadsBack s k x → LeadsBack s k (calls.resume x)
-  pub undo : (s : Nodes) (k : ℕ) (x : Account) (out : calls.Done) → LeadsBack s (suc k) x → calls.go_back calls.Undo x ≡ Ok (Some out) → LeadsBack s k out.account
+  pub undo : (s : Nodes) (k : ℕ) (x : Account) (out : calls.Done) → LeadsBack s (suc k) x
+      → calls.go_back calls.Undo x ≡ Ok (Some out) → LeadsBack s k out.account
   pub redo : (s : Nodes) (k : ℕ) (x : Account) (out : calls.Done) → LeadsBack s k x → k < 50
-      → ((t : Nodes) (e : List Change) → shown x ≡ Some t → redo_entry x.history ≡ Some e → Reverses t (calls.entry_bodies e)) → calls.go_back calls.Redo x ≡ Ok (Some out) → Leads s k out.account
-  pub presence : (s : Nodes) (k : ℕ) (x y : Account) (patch : List (List ℕ × Value)) (in_history : Bool) → LeadsBack s k x → k < 50 → calls.presence x patch in_history ≡ Ok y → Leads s k y
+      → ((t : Nodes) (e : List Change) → shown x ≡ Some t → redo_entry x.history ≡ Some e
+      → Reverses t (calls.entry_bodies e)) → calls.go_back calls.Redo x ≡ Ok (Some out) → Leads s k out.account
+  pub presence : (s : Nodes) (k : ℕ) (x y : Account) (patch : List (List ℕ × Value)) (in_history : Bool)
+      → LeadsBack s k x → k < 50 → calls.presence x patch in_history ≡ Ok y → Leads s k y
   -- what it takes, and all else that leaves what is shown, the batch and the history
-  pub same : (s : Nodes) (k : ℕ) (x y : Account) → shown y ≡ shown x → y.batch ≡ x.batch → y.history ≡ x.history → LeadsBack s k x → LeadsBack s k y
-  pub restores : (s : Nodes) (k : ℕ) (x y : Account) → LeadsBack s k x → x.batch ≡ None → Undoes k x y → shown y ≡ Some s
+  pub same : (s : Nodes) (k : ℕ) (x y : Account) → shown y ≡ shown x → y.batch ≡ x.batch → y.history ≡ x.history
+      → LeadsBack s k x → LeadsBack s k y
+  pub restores : (s : Nodes) (k : ℕ) (x y : Account) → LeadsBack s k x → x.batch ≡ None → Undoes k x y
+      → shown y ≡ Some s

@@ -8,9 +8,9 @@ use Rattle.room_msg.specs.declared.messages.ClientMsg.TheVariants as client
 use Rattle.room_msg.specs.declared.messages.ClientFrame.TheVariants as frame
 use Rattle.room_log.specs.Log.{Session, State, Update, tree_after, session_of, last_of, last_after, updates_of}
 use Rattle.room_model.specs.Account.{Batch, Stage, Idle, Dialled, Synced, actor_in}
-use Rattle.room_model.specs.Server.{Down, Up, Link}
-use Rattle.room_model.specs.World.{World, Host, Running, Stopped, Conn, room, state_in, links_of}
-use Rattle.room_model.specs.Run.{Run, seat, account, issued_of, all_given, IsUndisturbed}
+use Rattle.room_model.specs.Server.{Outbound, Inbound, Link}
+use Rattle.room_model.specs.World.{World, Host, Running, Stopped, Conn, room, state_in, links_of, slot, account}
+use Rattle.room_model.specs.Run.{Run, issued_of, all_given, IsUndisturbed}
 use Rattle.room_laws.specs.Ledger.{Ledger, Silent, upto}
 use Rattle.room_laws.specs.Core.{Core, core, issued, actor}
 use Rattle.room_laws.specs.Queues.{Place, IsOn, Waits, InOrder}
@@ -18,7 +18,7 @@ use Rattle.room_laws.specs.Queues.{Place, IsOn, Waits, InOrder}
 -- look-ups
 
 abbrev pub no_conn : Conn
-no_conn = record { owner = None; up = []; down = []; listens = false }
+no_conn = record { owner = None; inbound = []; outbound = []; listens = false }
 
 abbrev pub conn_in : Option Conn → Conn
 conn_in None = no_conn
@@ -41,20 +41,24 @@ core_of w c = core (account w c)
 
 -- the world's shape, whoever sends what
 
-pub record Open (q : Conn) (c : ℕ) : Type 0 where
+pub record ListensFor (q : Conn) (c : ℕ) : Type 0 where
   pub owner : q.owner ≡ Some c
   pub listens : q.listens ≡ true
 
 abbrev pub Hosts : Host → Type 0
-Hosts (Running v) = record { room : v.room ≡ room; access : v.access ≡ None; free : (k : ℕ) (l : Link) → get v.links k ≡ Some l → (l.decision ≡ None) × (0 < l.key) }
+Hosts (Running v) = record {
+  room : v.room ≡ room;
+  access : v.access ≡ None;
+  free : (k : ℕ) (l : Link) → get v.links k ≡ Some l → (l.decision ≡ None) × (0 < l.key);
+}
 Hosts (Stopped s) = Unit {0}
 
 pub record Shape (w : World) : Type 0 where
   pub hosts : Hosts w.host
   -- a client's present connection is its own, and the only one of its own that listens
-  pub present : (c k : ℕ) → (seat w c).present ≡ Some k → Open (conn w k) c
-  pub heard : (c k : ℕ) → Open (conn w k) c → (seat w c).present ≡ Some k
-  pub deaf : (k : ℕ) → (conn w k).listens ≡ false → (conn w k).down ≡ []
+  pub present : (c k : ℕ) → (slot w c).present ≡ Some k → ListensFor (conn w k) c
+  pub heard : (c k : ℕ) → ListensFor (conn w k) c → (slot w c).present ≡ Some k
+  pub deaf : (k : ℕ) → (conn w k).listens ≡ false → (conn w k).outbound ≡ []
   -- connections that are yet to come
   pub unlinked : (k : ℕ) → w.opened < k → link w k ≡ None
   pub unopened : (k : ℕ) → w.opened < k → conn w k ≡ no_conn
@@ -92,9 +96,14 @@ StandsIn s ss (Some w) = Stands s ss w
 -- what it holds after the updates `done`
 abbrev pub Shows : State → List Update → Stage → ℕ → Option Resume → Option Nodes → Type 0
 Shows s done stage n session None = record { unsynced : stage ≡ Synced → ⊥; none : done ≡ []; nothing : n ≡ 0 }
-Shows s done stage n session (Some t) = record { tree : t ≡ tree_after s.tree done; number : n ≡ s.count + length done; known : is_some session ≡ true }
+Shows s done stage n session (Some t) = record {
+  tree : t ≡ tree_after s.tree done;
+  number : n ≡ s.count + length done;
+  known : is_some session ≡ true;
+}
 
-pub record Own (s : State) (us : List Update) (last : ℕ) (x : Core) (all : List Batch) (done coming : List Update) : Type 0 where
+pub record Own (s : State) (us : List Update) (last : ℕ) (x : Core) (all : List Batch)
+    (done coming : List Update) : Type 0 where
   pub room : x.room ≡ room
   pub whole : us ≡ done ++ coming
   pub shows : Shows s done x.stage x.n x.session x.confirmed
@@ -114,10 +123,16 @@ NewIn s us ss None = ⊥
 NewIn s us ss (Some w) = New s us ss w
 
 -- what the server knows of the connection, against where its queue leads
-abbrev pub Linked : Option Resume → Stage → List Down → Place → Option Link → Type 0
+abbrev pub Linked : Option Resume → Stage → List Outbound → Place → Option Link → Type 0
 Linked w now q end None = Unit {0}
 Linked w now q end (Some l) =
-    record { none : l.actor ≡ None; unfetched : l.fetched ≡ false; empty : q ≡ []; dialled : now ≡ Dialled; whole : end.parts ≡ [] }
+    record {
+      none : l.actor ≡ None;
+      unfetched : l.fetched ≡ false;
+      empty : q ≡ [];
+      dialled : now ≡ Dialled;
+      whole : end.parts ≡ [];
+    }
     ⊎ record {
       resume : Resume;
       some : w ≡ Some resume;
@@ -131,10 +146,15 @@ abbrev pub place : Core → List Update → List Update → Place
 place x done coming = record { stage = x.stage; parts = x.parts; done = done; coming = coming }
 
 -- `given`: the actors that connections were given, each with the client that dialled it
-pub record Present (s : State) (us : List Update) (ss : List Session) (given : List (ℕ × Option ℕ)) (c : ℕ) (session : Option Resume) (here : Place) (q : List Down) (l : Option Link) : Type 0 where
+pub record Present (s : State) (us : List Update) (ss : List Session) (given : List (ℕ × Option ℕ)) (c : ℕ)
+    (session : Option Resume) (here : Place) (q : List Outbound) (l : Option Link) : Type 0 where
   pub who : Option Resume
   -- the session is the client's, or a new one, unless somebody else took it up
-  pub named : (session ≡ who) ⊎ record { unknown : session ≡ None; new : all_given c (actor_in who) given ≡ true → NewIn s us ss who }
+  pub named : (session ≡ who) ⊎ record {
+    unknown : session ≡ None;
+    new : all_given c (actor_in who) given ≡ true
+        → NewIn s us ss who;
+  }
   pub known : IsOn here.stage → (session ≡ who) × (is_some who ≡ true)
   -- it was begun since the opening
   pub begun : last_of s.sessions (actor_in who) ≡ 0
@@ -142,49 +162,58 @@ pub record Present (s : State) (us : List Update) (ss : List Session) (given : L
   pub waits : Waits s who here q end
   pub linked : Linked who here.stage q end l
 
-abbrev pub Seated : State → List Update → List Session → List (ℕ × Option ℕ) → ℕ → Option ℕ → Option Resume → Place → List Down → Option Link → Type 0
-Seated s us ss given c None session here q l = record { idle : here.stage ≡ Idle; bare : here.parts ≡ [] }
-Seated s us ss given c (Some k) session here q l = Present s us ss given c session here q l
+abbrev pub Standing : State → List Update → List Session → List (ℕ × Option ℕ) → ℕ → Option ℕ → Option Resume → Place
+    → List Outbound → Option Link → Type 0
+Standing s us ss given c None session here q l = record { idle : here.stage ≡ Idle; bare : here.parts ≡ [] }
+Standing s us ss given c (Some k) session here q l = Present s us ss given c session here q l
 
 -- a client with its present connection
-pub record Client (s : State) (us : List Update) (ss : List Session) (given : List (ℕ × Option ℕ)) (c : ℕ) (present : Option ℕ) (x : Core) (all : List Batch) (q : List Down) (l : Option Link) : Type 0 where
+pub record Client (s : State) (us : List Update) (ss : List Session) (given : List (ℕ × Option ℕ)) (c : ℕ)
+    (present : Option ℕ) (x : Core) (all : List Batch) (q : List Outbound) (l : Option Link) : Type 0 where
   pub done : List Update
   pub coming : List Update
   pub own : Own s us (last_of ss (actor x)) x all done coming
   pub stands : StandsIn s ss x.session
-  pub seated : Seated s us ss given c present x.session (place x done coming) q l
+  pub standing : Standing s us ss given c present x.session (place x done coming) q l
 
--- the queue up of a client's connection; `now` says that it is the present one
+-- the inbound queue of a client's connection; `now` says that it is the present one
 
-abbrev pub hello_frame : Option Resume → Up
-hello_frame resume = Ok (frame.Msgs (client.Hello (record { room = room; resume = resume; name = None; «pass» = None }) ∷ []))
+abbrev pub hello_frame : Option Resume → Inbound
+hello_frame resume =
+    Ok (frame.Msgs (client.Hello (record { room = room; resume = resume; name = None; «pass» = None }) ∷ []))
 
-abbrev pub UpAt : Type 0 → Option Resume → ℕ → List Batch → ℕ → Option ℕ → List Up → Type 0
-UpAt now session tried all last None q = record {
+abbrev pub InboundAt : Type 0 → Option Resume → ℕ → List Batch → ℕ → Option ℕ → List Inbound → Type 0
+InboundAt now session tried all last None q = record {
   resume : Option Resume;
   is : q ≡ hello_frame resume ∷ [];
   old : (resume ≡ None) ⊎ (resume ≡ session);
   current : now → resume ≡ session;
 }
-UpAt now session tried all last (Some b) q = record { some : 0 < b; reach : ℕ; order : InOrder b (actor_in session) all last q reach; sent : now → tried ≤ reach }
+InboundAt now session tried all last (Some b) q = record {
+  some : 0 < b;
+  reach : ℕ;
+  order : InOrder b (actor_in session) all last q reach;
+  sent : now → tried ≤ reach;
+}
 
-abbrev pub Ups : Type 0 → Option Resume → ℕ → List Batch → ℕ → Option Link → List Up → Type 0
-Ups now session tried all last None q = q ≡ []
-Ups now session tried all last (Some l) q = UpAt now session tried all last l.actor q
+abbrev pub Inbounds : Type 0 → Option Resume → ℕ → List Batch → ℕ → Option Link → List Inbound → Type 0
+Inbounds now session tried all last None q = q ≡ []
+Inbounds now session tried all last (Some l) q = InboundAt now session tried all last l.actor q
 
 -- the last clock that was tried to send
 abbrev pub tried : Core → ℕ
 tried x = upto x.told x.sent
 
-abbrev pub present_down : World → Option ℕ → List Down
-present_down w None = []
-present_down w (Some k) = (conn w k).down
+abbrev pub present_outbound : World → Option ℕ → List Outbound
+present_outbound w None = []
+present_outbound w (Some k) = (conn w k).outbound
 
 abbrev pub present_link : World → Option ℕ → Option Link
 present_link w None = None
 present_link w (Some k) = link w k
 
--- A connection that the server gave an actor: if nobody but the client c was ever given that actor, the connection is c's.
+-- A connection that the server gave an actor: if nobody but the client c was ever given that actor, the connection is
+-- c's.
 abbrev pub IsGiven : List (ℕ × Option ℕ) → Option ℕ → ℕ → Type 0
 IsGiven given owner a = (c : ℕ) → all_given c a given ≡ true → owner ≡ Some c
 
@@ -192,11 +221,13 @@ IsGiven given owner a = (c : ℕ) → all_given c a given ≡ true → owner ≡
 pub record Inv (s : State) (r : Run) : Type 0 where
   pub shape : Shape r.world
   pub logged : Logged s (updates_of r.log) (state_in r.world.host)
-  pub given : (k a : ℕ) (l : Link) → link r.world k ≡ Some l → l.actor ≡ Some a → IsGiven r.given (conn r.world k).owner a
+  pub given : (k a : ℕ) (l : Link) → link r.world k ≡ Some l → l.actor ≡ Some a
+      → IsGiven r.given (conn r.world k).owner a
   pub actors : (k a : ℕ) (l : Link) → link r.world k ≡ Some l → l.actor ≡ Some a → (0 < a) × (a ≤ length (sessions r))
   pub nobody : (c : ℕ) → all_given c 0 r.given ≡ true
   pub client : (c : ℕ) → IsUndisturbed r c
-      → Client s (updates_of r.log) (sessions r) r.given c (seat r.world c).present (core_of r.world c) (issued_by r c)
-      (present_down r.world (seat r.world c).present) (present_link r.world (seat r.world c).present)
-  pub ups : (c k : ℕ) → (conn r.world k).owner ≡ Some c → IsUndisturbed r c
-      → Ups ((seat r.world c).present ≡ Some k) (core_of r.world c).session (tried (core_of r.world c)) (issued_by r c) (last_of (sessions r) (actor (core_of r.world c))) (link r.world k) (conn r.world k).up
+      → Client s (updates_of r.log) (sessions r) r.given c (slot r.world c).present (core_of r.world c) (issued_by r c)
+      (present_outbound r.world (slot r.world c).present) (present_link r.world (slot r.world c).present)
+  pub inbounds : (c k : ℕ) → (conn r.world k).owner ≡ Some c → IsUndisturbed r c
+      → Inbounds ((slot r.world c).present ≡ Some k) (core_of r.world c).session (tried (core_of r.world c))
+      (issued_by r c) (last_of (sessions r) (actor (core_of r.world c))) (link r.world k) (conn r.world k).inbound

@@ -8,10 +8,10 @@ use Rattle.room_model.specs.Account.{Batch, actor, pending_bodies, shown}
 use Rattle.room_model.specs.Lines.{Line}
 use Rattle.room_msg.specs.declared.messages.ServerMsg.{ServerMsg}
 use Rattle.room_msg.specs.declared.messages.ServerFrame.TheVariants.{Msgs}
-use Rattle.room_model.specs.Comes.{frame_comes}
-use Rattle.room_model.specs.Server.{Server, Down, Pong, Message, Closed, Up, serve}
-use Rattle.room_model.specs.World.{Running, state_in}
-use Rattle.room_model.specs.Run.{Run, run, opened, seat, account, issued_of, IsUndisturbed}
+use Rattle.room_model.specs.Receive.{receive_frame}
+use Rattle.room_model.specs.Server.{Server, Outbound, Pong, Message, Closed, Inbound, serve}
+use Rattle.room_model.specs.World.{Running, state_in, slot, account}
+use Rattle.room_model.specs.Run.{Run, run, opened, issued_of, IsUndisturbed}
 use Rattle.room_model.specs.Sound.{RunsOn}
 use Rattle.room_laws.specs.Invariant.{conn}
 
@@ -34,7 +34,8 @@ Once a t (u ∷ us) bs =
 pub record ShowsLog (s : State) (r : Run) (c : ℕ) (t : Nodes) : Type 0 where
   pub tree : t ≡ tree_at s r.log (account r.world c).n
   pub told : (account r.world c).told ≡ last_at s r.log (account r.world c).n (actor (account r.world c))
-  pub on_top : shown (account r.world c) ≡ Some (fold (tree_at s r.log (account r.world c).n) (pending_bodies (account r.world c)))
+  pub on_top : shown (account r.world c) ≡ Some
+      (fold (tree_at s r.log (account r.world c).n) (pending_bodies (account r.world c)))
 
 -- its batches in the log, each once, and what it was told of them
 pub record Kept (s : State) (r : Run) (c : ℕ) : Type 0 where
@@ -44,38 +45,47 @@ pub record Kept (s : State) (r : Run) (c : ℕ) : Type 0 where
 
 -- each tree that these updates lead to is read again, from its items, as itself
 abbrev pub ReadsBack : State → List Update → Type 0
-ReadsBack s us = (vs ws : List Update) → us ≡ vs ++ ws → tree_in (items_of (tree_after s.tree vs)) ≡ Some (tree_after s.tree vs)
+ReadsBack s us =
+    (vs ws : List Update) → us ≡ vs ++ ws → tree_in (items_of (tree_after s.tree vs)) ≡ Some (tree_after s.tree vs)
 
 -- every state of the server over these lines can be read by a client
 abbrev pub IsReadable : State → List (ℕ × Line) → Type 0
 IsReadable s ls = ReadsBack s (updates_of (run (opened s) ls).log)
 
 abbrev pub EachShows : Type 0
-EachShows = (s : State) (ls : List (ℕ × Line)) (c : ℕ) (t : Nodes) → IsReadable s ls → IsUndisturbed (run (opened s) ls) c
+EachShows =
+    (s : State) (ls : List (ℕ × Line)) (c : ℕ) (t : Nodes) → IsReadable s ls → IsUndisturbed (run (opened s) ls) c
     → (account (run (opened s) ls).world c).confirmed ≡ Some t → ShowsLog s (run (opened s) ls) c t
 
 abbrev pub EachOnce : Type 0
-EachOnce = (s : State) (ls : List (ℕ × Line)) (c : ℕ) → IsReadable s ls → IsUndisturbed (run (opened s) ls) c → Kept s (run (opened s) ls) c
+EachOnce =
+    (s : State) (ls : List (ℕ × Line)) (c : ℕ) → IsReadable s ls → IsUndisturbed (run (opened s) ls) c
+    → Kept s (run (opened s) ls) c
 
 -- the closes that a client may get for what it sends: the room is full, or its session goes on elsewhere
-abbrev pub spares : Down → Bool
+abbrev pub spares : Outbound → Bool
 spares Pong = true
 spares (Message m) = true
 spares (Closed code text) = (code == 4406) || (code == 4408)
 
-abbrev pub spares_all : List (ℕ × Down) → Bool
+abbrev pub spares_all : List (ℕ × Outbound) → Bool
 spares_all [] = true
 spares_all (o ∷ os) = spares o.1 && spares_all os
 
--- an undisturbed client refuses no message that comes down
+-- an undisturbed client refuses no message that waits for it
 abbrev pub EachTaken : Type 0
-EachTaken = (s : State) (ls : List (ℕ × Line)) (c k : ℕ) (m : ServerMsg) (ms : List Down) → IsReadable s ls → IsUndisturbed (run (opened s) ls) c
-    → (seat (run (opened s) ls).world c).present ≡ Some k → (conn (run (opened s) ls).world k).down ≡ Message m ∷ ms
-    → IsOk (frame_comes (account (run (opened s) ls).world c) (Msgs (m ∷ [])))
+EachTaken =
+    (s : State) (ls : List (ℕ × Line)) (c k : ℕ) (m : ServerMsg) (ms : List Outbound) → IsReadable s ls
+    → IsUndisturbed (run (opened s) ls) c
+    → (slot (run (opened s) ls).world c).present ≡ Some k → (conn (run (opened s) ls).world k).outbound ≡ Message m ∷ ms
+    → IsOk (receive_frame (account (run (opened s) ls).world c) (Msgs (m ∷ [])))
 
 -- and no frame that it sent is answered by another close than these: not as a bad frame, a bad resume, a gap in its
 -- clocks or an operation of somebody else
 abbrev pub EachServed : Type 0
-EachServed = (s : State) (ls : List (ℕ × Line)) (c k : ℕ) (v : Server) (u : Up) (us : List Up) → IsReadable s ls → IsUndisturbed (run (opened s) ls) c
-    → (run (opened s) ls).world.host ≡ Running v → (conn (run (opened s) ls).world k).owner ≡ Some c → (conn (run (opened s) ls).world k).up ≡ u ∷ us
+EachServed =
+    (s : State) (ls : List (ℕ × Line)) (c k : ℕ) (v : Server) (u : Inbound) (us : List Inbound) → IsReadable s ls
+    → IsUndisturbed (run (opened s) ls) c
+    → (run (opened s) ls).world.host ≡ Running v → (conn (run (opened s) ls).world k).owner ≡ Some c
+    → (conn (run (opened s) ls).world k).inbound ≡ u ∷ us
     → spares_all (serve v k u).outs ≡ true

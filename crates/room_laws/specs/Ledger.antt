@@ -33,13 +33,14 @@ Matches a t c (u ∷ us) bs rest e =
 
 -- All batches that were ever issued, against the log: `done` took those up to `told`, `coming` takes the next up to
 -- `last`, and `rest` is left.
-pub record Ledger (s : State) (last a : ℕ) (done coming : List Update) (all pending : List Batch) (told : ℕ) : Type 0 where
+pub record Ledger (s : State) (last a : ℕ) (done coming : List Update) (all pending : List Batch)
+    (told : ℕ) : Type 0 where
   pub accepted : List Batch
   pub rest : List Batch
   pub all_is : all ≡ accepted ++ rest
   pub last_is : upto 0 accepted ≡ last
   pub chain : RunsOn 0 all
-  pub took : Matches a s.tree 0 done all pending told
+  pub received : Matches a s.tree 0 done all pending told
   pub takes : Matches a (tree_after s.tree done) told coming pending rest last
 
 -- none of these updates is of the actor

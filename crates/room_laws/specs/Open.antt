@@ -12,7 +12,7 @@ use Rattle.room_nodes.specs.Reversal.{reverse_all}
 use Rattle.room_model.specs.History.{note}
 use Rattle.room_model.specs.Account.{Account, Batch, OpenBatch, issued, all_bodies, shown}
 use Rattle.room_model.specs.Calls as calls
-use Rattle.room_model.specs.Comes as messages
+use Rattle.room_model.specs.Receive as messages
 
 -- what a client shows without its open batch
 abbrev pub base_over : Account → Option Nodes → Option Nodes
@@ -48,12 +48,15 @@ pub record Notes (t : Nodes) (x : Account) (b : Batch) (out : calls.Done) : Type
   pub noted : out.account.history ≡ note changes x.history
   pub back : calls.entry_bodies changes ≡ reverse_all t b.bodies
 
--- an open batch stands on the tree that was shown as it began, until a state or an update comes; what its end notes takes
+-- an open batch stands on the tree that was shown as it began, until a state or an update comes; what its end notes
+-- takes
 -- it back; an edit outside a batch notes what takes it back; and undoing an entry issues that entry's operations
 pub record KeepsOpen : Type 0 where
   pub batch_begin : (t : Nodes) (x y : Account) → shown x ≡ Some t → calls.batch_begin x ≡ Ok y → IsOpenOn t y
-  pub edit : (t : Nodes) (x : Account) (e : Edit) (out : calls.Done) → IsOpenOn t x → calls.edit x e ≡ Ok out → IsOpenOn t out.account
-  pub presence : (t : Nodes) (x y : Account) (patch : List (List ℕ × Value)) (in_history : Bool) → IsOpenOn t x → calls.presence x patch in_history ≡ Ok y → IsOpenOn t y
+  pub edit : (t : Nodes) (x : Account) (e : Edit) (out : calls.Done) → IsOpenOn t x → calls.edit x e ≡ Ok out
+      → IsOpenOn t out.account
+  pub presence : (t : Nodes) (x y : Account) (patch : List (List ℕ × Value)) (in_history : Bool) → IsOpenOn t x
+      → calls.presence x patch in_history ≡ Ok y → IsOpenOn t y
   pub event : (t : Nodes) (x y : Account) (e : Json) → IsOpenOn t x → calls.event x e ≡ Ok y → IsOpenOn t y
   pub pause : (t : Nodes) (x : Account) → IsOpenOn t x → IsOpenOn t (calls.pause x)
   pub resume : (t : Nodes) (x : Account) → IsOpenOn t x → IsOpenOn t (calls.resume x)
@@ -62,7 +65,12 @@ pub record KeepsOpen : Type 0 where
   pub resent : (t : Nodes) (x : Account) → IsOpenOn t x → IsOpenOn t (calls.resent x)
   pub lost : (t : Nodes) (x : Account) → IsOpenOn t x → IsOpenOn t (calls.lost x)
   pub dialled : (t : Nodes) (x : Account) → IsOpenOn t x → IsOpenOn t (calls.dialled x)
-  pub comes : (t : Nodes) (x : Account) (m : ServerMsg) (out : messages.Took) → brings_none m ≡ true → IsOpenOn t x → messages.comes x m ≡ Ok out → IsOpenOn t out.account
-  pub batch_end : (t : Nodes) (x : Account) (b : Batch) (out : calls.Done) → IsOpenOn t x → calls.batch_end x ≡ Ok out → out.issues ≡ b ∷ [] → Notes t x b out
-  pub alone : (t : Nodes) (x : Account) (e : Edit) (b : Batch) (out : calls.Done) → x.batch ≡ None → shown x ≡ Some t → calls.edit x e ≡ Ok out → out.issues ≡ b ∷ [] → Notes t x b out
-  pub go_back : (way : calls.Way) (x : Account) (e : List Change) (b : Batch) (out : calls.Done) → calls.entry_of way x.history ≡ Some e → calls.go_back way x ≡ Ok (Some out) → out.issues ≡ b ∷ [] → b.bodies ≡ calls.entry_bodies e
+  pub receive : (t : Nodes) (x : Account) (m : ServerMsg) (out : messages.Received) → brings_none m ≡ true
+      → IsOpenOn t x → messages.receive x m ≡ Ok out → IsOpenOn t out.account
+  pub batch_end : (t : Nodes) (x : Account) (b : Batch) (out : calls.Done) → IsOpenOn t x → calls.batch_end x ≡ Ok out
+      → out.issues ≡ b ∷ [] → Notes t x b out
+  pub alone : (t : Nodes) (x : Account) (e : Edit) (b : Batch) (out : calls.Done) → x.batch ≡ None → shown x ≡ Some t
+      → calls.edit x e ≡ Ok out → out.issues ≡ b ∷ [] → Notes t x b out
+  pub go_back : (way : calls.Direction) (x : Account) (e : List Change) (b : Batch) (out : calls.Done)
+      → calls.entry_of way x.history ≡ Some e → calls.go_back way x ≡ Ok (Some out) → out.issues ≡ b ∷ []
+      → b.bodies ≡ calls.entry_bodies e

@@ -8,8 +8,8 @@ use Rattle.room_msg.specs.declared.messages.ClientFrame.TheVariants as frame
 use Rattle.room_msg.specs.declared.messages.ServerMsg.TheVariants as server
 use Rattle.room_log.specs.Log.{State, Update, tree_after, last_after, ops_of, ops_from}
 use Rattle.room_model.specs.Account.{Batch, Part, Stage, Idle, Dialled, Connected, Synced, actor_in, last_clock}
-use Rattle.room_model.specs.Comes.{other_parts, parts_items}
-use Rattle.room_model.specs.Server.{Down, Pong, Message, Closed, Up}
+use Rattle.room_model.specs.Receive.{other_parts, parts_items}
+use Rattle.room_model.specs.Server.{Outbound, Pong, Message, Closed, Inbound}
 use Rattle.room_laws.specs.Ledger.{In}
 
 -- connected, or synced
@@ -19,7 +19,7 @@ IsOn Dialled = ⊥
 IsOn Connected = Unit {0}
 IsOn Synced = Unit {0}
 
--- where a client stands as it takes the queue down: its stage, the parts kept, the updates taken, and those to come
+-- where a client stands as it takes the outbound queue: its stage, the parts kept, the updates taken, and those to come
 pub record Place : Type 0 where
   pub stage : Stage
   pub parts : List Part
@@ -28,7 +28,8 @@ pub record Place : Type 0 where
 
 -- a part of a state: the last one brings the updates up to its number
 abbrev pub SaysPart : State → Option Resume → Place → ℕ → ℕ → List Value → Bool → Place → Type 0
-SaysPart s w p seq last items true q = q ≡ record p { parts = p.parts ++ record { seq = seq; last = last; items = items } ∷ [] }
+SaysPart s w p seq last items true q =
+    q ≡ record p { parts = p.parts ++ record { seq = seq; last = last; items = items } ∷ [] }
 SaysPart s w p seq last items false q = record {
   mid : List Update;
   rest : List Update;
@@ -39,8 +40,8 @@ SaysPart s w p seq last items false q = record {
   tree : tree_in (parts_items p.parts ++ items) ≡ Some (tree_after s.tree (p.done ++ mid));
 }
 
--- What comes down, taken at the place p, may be taken, and leads to the place q. w: the connection's session.
-abbrev pub Says : State → Option Resume → Place → Down → Place → Type 0
+-- What is outbound, taken at the place p, may be taken, and leads to the place q. w: the connection's session.
+abbrev pub Says : State → Option Resume → Place → Outbound → Place → Type 0
 Says s w p Pong q = q ≡ p
 Says s w p (Closed code text) q = q ≡ record p { stage = Idle; parts = [] }
 Says s w p (Message (server.Presence a target patch)) q = record { on : IsOn p.stage; place : q ≡ p }
@@ -69,15 +70,16 @@ Says s w p (Message (server.Update seq os)) q = record {
 }
 
 -- the queue, taken whole at the place p, leads to the place q
-abbrev pub Waits : State → Option Resume → Place → List Down → Place → Type 0
+abbrev pub Waits : State → Option Resume → Place → List Outbound → Place → Type 0
 Waits s w p [] q = p ≡ q
 Waits s w p (m ∷ ms) q = record { next : Place; says : Says s w p m next; more : Waits s w next ms q }
 
--- Each frame of the queue up is one that a client sends once it is told its session; each that holds operations is a
+-- Each frame of the inbound queue is one that a client sends once it is told its session; each that holds operations is
+-- a
 -- batch that was issued, and begins by the clock after all before it; e is the clock after all. b is the actor of the
 -- connection, a the one that the client knows.
 
-abbrev pub InOrder : ℕ → ℕ → List Batch → ℕ → List Up → ℕ → Type 0
+abbrev pub InOrder : ℕ → ℕ → List Batch → ℕ → List Inbound → ℕ → Type 0
 InOrder b a all c [] e = c ≡ e
 InOrder b a all c (Err r ∷ q) e = ⊥
 InOrder b a all c (Ok frame.Ping ∷ q) e = ⊥

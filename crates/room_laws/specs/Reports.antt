@@ -11,4 +11,6 @@ world_after w [] = w
 world_after w (l ∷ ls) = world_after (step w l.0 l.1).world ls
 
 abbrev pub ReportInOrder : Type 0
-ReportInOrder = (w : World) (ls ms : List (ℕ × Line)) → report_from w (ls ++ ms) ≡ report_from w ls ++ report_from (world_after w ls) ms
+ReportInOrder =
+    (w : World) (ls ms : List (ℕ × Line)) → report_from w (ls ++ ms) ≡ report_from w ls
+    ++ report_from (world_after w ls) ms

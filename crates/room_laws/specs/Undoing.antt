@@ -9,7 +9,8 @@ use Rattle.room_model.specs.Account.{Batch, actor}
 use Rattle.room_model.specs.Lines.{Line}
 use Rattle.room_nodes.specs.Ordered.{IsOrderedTree, AreOrderedBodies}
 use Rattle.room_nodes.specs.Reversal.{reverse_all}
-use Rattle.room_model.specs.Run.{Run, run, opened, account, issued_of, IsUndisturbed}
+use Rattle.room_model.specs.World.{account}
+use Rattle.room_model.specs.Run.{Run, run, opened, issued_of, IsUndisturbed}
 use Rattle.room_laws.specs.Ledger.{In}
 use Rattle.room_laws.specs.Laws.{IsReadable}
 
@@ -27,7 +28,8 @@ pub record Accepts (r : Run) (c : ℕ) (u : Update) (b : Batch) : Type 0 where
 -- The log's updates: some, then b, which took the batch `made`, then vs, then u, which took `back`, then others. `back`
 -- takes `made` back as it was made on the tree `shown`; that and the tree before b agree on the cells of `made`, and vs
 -- is apart from it.
-pub record TakesBack (s : State) (r : Run) (c : ℕ) (shown : Nodes) (made back : Batch) (us vs ws : List Update) (b u : Update) : Type 0 where
+pub record TakesBack (s : State) (r : Run) (c : ℕ) (shown : Nodes) (made back : Batch) (us vs ws : List Update)
+    (b u : Update) : Type 0 where
   pub log : updates_of r.log ≡ us ++ b ∷ (vs ++ u ∷ ws)
   pub taken : Accepts r c b made
   pub taken_back : Accepts r c u back
@@ -46,6 +48,8 @@ pub record IsInOrder (s : State) (shown : Nodes) (made : Batch) (us vs : List Up
 
 -- then the tree is as if neither of the two batches had been
 abbrev pub EachUndone : Type 0
-EachUndone = (s : State) (ls : List (ℕ × Line)) (c : ℕ) (shown : Nodes) (made back : Batch) (us vs ws : List Update) (b u : Update) → IsReadable s ls → IsUndisturbed (run (opened s) ls) c
+EachUndone =
+    (s : State) (ls : List (ℕ × Line)) (c : ℕ) (shown : Nodes) (made back : Batch) (us vs ws : List Update)
+    (b u : Update) → IsReadable s ls → IsUndisturbed (run (opened s) ls) c
     → TakesBack s (run (opened s) ls) c shown made back us vs ws b u → IsInOrder s shown made us vs
     → tree_after s.tree (us ++ b ∷ (vs ++ u ∷ [])) ≡ fold (tree_after s.tree us) (bodies_after vs)

@@ -14,9 +14,9 @@ use Rattle.room_msg.specs.declared.messages.ClientFrame.TheVariants.{Ping, Msgs}
 use Rattle.room_log.specs.Log.{State}
 use Rattle.room_log.specs.Follows.{IsKey, IsValidLog, IsValidState, most, most_actor}
 use Rattle.room_model.specs.Lines.{Line}
-use Rattle.room_model.specs.Server.{Down, Pong, Message, Closed, Up, Limits, Link, Server}
-use Rattle.room_model.specs.World.{Conn, Host, Running, Stopped, World}
-use Rattle.room_model.specs.Run.{run, opened, account}
+use Rattle.room_model.specs.Server.{Outbound, Pong, Message, Closed, Inbound, Limits, Link, Server}
+use Rattle.room_model.specs.World.{Conn, Host, Running, Stopped, World, account}
+use Rattle.room_model.specs.Run.{run, opened}
 use Rattle.room_model.specs.Sound.{AreItems, IsLine, IsSound, IsValidTree}
 use Rattle.room_laws.specs.Accounts.{IsValidServerMsg}
 use Rattle.room_laws.specs.Invariant.{conn}
@@ -33,7 +33,7 @@ pub record AreLines (ls : List (ℕ × Line)) : Type 0 where
   pub spelled : AreSpelled ls
   pub fewer : IsKey (length ls)
 
--- what goes up
+-- what is inbound
 
 abbrev pub IsValidClientMsg : ClientMsg → Type 0
 IsValidClientMsg (client.Hello h) = IsUtf8 h.room × IsTextIfThere h.name × IsTextIfThere h.«pass»
@@ -46,29 +46,29 @@ abbrev pub AreValidClientMsgs : List ClientMsg → Type 0
 AreValidClientMsgs [] = ⊤
 AreValidClientMsgs (m ∷ ms) = IsValidClientMsg m × AreValidClientMsgs ms
 
-abbrev pub IsSoundUp : Up → Type 0
-IsSoundUp (Err reason) = ⊤
-IsSoundUp (Ok Ping) = ⊤
-IsSoundUp (Ok (Msgs ms)) = AreValidClientMsgs ms
+abbrev pub IsSoundInbound : Inbound → Type 0
+IsSoundInbound (Err reason) = ⊤
+IsSoundInbound (Ok Ping) = ⊤
+IsSoundInbound (Ok (Msgs ms)) = AreValidClientMsgs ms
 
-abbrev pub AreSoundUps : List Up → Type 0
-AreSoundUps [] = ⊤
-AreSoundUps (u ∷ us) = IsSoundUp u × AreSoundUps us
+abbrev pub AreSoundInbounds : List Inbound → Type 0
+AreSoundInbounds [] = ⊤
+AreSoundInbounds (u ∷ us) = IsSoundInbound u × AreSoundInbounds us
 
--- and what comes down
+-- and what is outbound
 
-abbrev pub IsSoundDown : Down → Type 0
-IsSoundDown Pong = ⊤
-IsSoundDown (Message m) = IsValidServerMsg m
-IsSoundDown (Closed code text) = ⊤
+abbrev pub IsSoundOutbound : Outbound → Type 0
+IsSoundOutbound Pong = ⊤
+IsSoundOutbound (Message m) = IsValidServerMsg m
+IsSoundOutbound (Closed code text) = ⊤
 
-abbrev pub AreSoundDowns : List Down → Type 0
-AreSoundDowns [] = ⊤
-AreSoundDowns (m ∷ ms) = IsSoundDown m × AreSoundDowns ms
+abbrev pub AreSoundOutbounds : List Outbound → Type 0
+AreSoundOutbounds [] = ⊤
+AreSoundOutbounds (m ∷ ms) = IsSoundOutbound m × AreSoundOutbounds ms
 
 pub record IsSoundConn (q : Conn) : Type 0 where
-  pub up : AreSoundUps q.up
-  pub down : AreSoundDowns q.down
+  pub inbound : AreSoundInbounds q.inbound
+  pub outbound : AreSoundOutbounds q.outbound
 
 -- a server
 
@@ -115,4 +115,6 @@ ReadableRun = (s : State) (ls : List (ℕ × Line)) → IsValidState s → AreLi
 
 -- and each client's account is sound
 abbrev pub SoundAccounts : Type 0
-SoundAccounts = (s : State) (ls : List (ℕ × Line)) (c : ℕ) → IsValidState s → AreLines ls → IsSound (account (run (opened s) ls).world c)
+SoundAccounts =
+    (s : State) (ls : List (ℕ × Line)) (c : ℕ) → IsValidState s → AreLines ls
+    → IsSound (account (run (opened s) ls).world c)

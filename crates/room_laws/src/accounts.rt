@@ -16,7 +16,8 @@ pub fn keeps_clocks()
 {}
 
 /// What takes an open batch back is its reversal on the tree that was shown as it began, until a state or an update
-/// comes; its end notes that, as an edit outside a batch notes its own reversal; and undoing an entry issues what it holds.
+/// comes; its end notes that, as an edit outside a batch notes its own reversal; and undoing an entry issues what it
+/// holds.
 pub fn keeps_open()
     ensures { KeepsOpen }
 {}

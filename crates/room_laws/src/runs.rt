@@ -41,8 +41,8 @@ pub fn each_served()
     ensures { AlwaysServed }
 {}
 
-/// A batch that a client begins, ends and later undoes, with no state and no update coming between its beginning and its
-/// end, is taken back by its reversal on the tree that the client showed as it began.
+/// A batch that a client begins, ends and later undoes, with no state and no update coming between its beginning and
+/// its end, is taken back by its reversal on the tree that the client showed as it began.
 pub fn each_reversed()
     ensures { EachReversed }
 {}

@@ -12,8 +12,8 @@ abbrev pub TakenOnce : Type 0
 TakenOnce = (s : State) (a : ℕ) (os : List Op) (u : Update) (session : Session) →
     session_of s.sessions a ≡ Some session → take s a os ≡ Takes u → take (after s (Updated u)) a os ≡ Nothing
 
--- what is taken of a session's operations follows, where they are sound and shallow and one more update has room. The
--- clocks of sound operations are at most the greatest one, so the last of an update is
+-- what is taken of a session's operations follows, where they are sound and shallow and the number of updates is below
+-- its bound. The clocks of sound operations are at most the greatest one, so the last of an update is
 abbrev pub TakenFollows : Type 0
 TakenFollows = (s : State) (a : ℕ) (os : List Op) (u : Update) (session : Session) → IsValidState s →
     session_of s.sessions a ≡ Some session → AreSoundOps os → AreShallowOps os → take s a os ≡ Takes u →

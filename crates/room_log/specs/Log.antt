@@ -72,10 +72,6 @@ abbrev pub name_in : Option Session → List ℕ
 name_in None = []
 name_in (Some s) = s.name
 
-abbrev pub key_in : Option Session → ℕ
-key_in None = 0
-key_in (Some s) = s.key
-
 -- the last clock of an actor, 0 for one without a session
 abbrev pub last_of : List Session → ℕ → ℕ
 last_of ss a = last_in (session_of ss a)

@@ -7,7 +7,7 @@ pub fn taken_once()
 {}
 
 /// What is taken of a session's operations follows a valid state. They are sound and not too deep, and the number of
-/// updates has room for one more.
+/// updates is below its bound.
 pub fn taken_follows()
     ensures { TakenFollows }
 {}

@@ -44,7 +44,9 @@ fits_word rule word = bytes_eq rule word || bytes_eq rule (codes "*")
 abbrev pub decide_from : ℕ → List Rule → List ℕ → List ℕ → Decision
 decide_from n [] room group = record { level = Nothing; row = None }
 decide_from n (r ∷ rs) room group =
-    if fits_word r.room room && fits_word r.group group then record { level = r.level; row = Some n } else decide_from (suc n) rs room group
+    if fits_word r.room room && fits_word r.group group
+    then record { level = r.level; row = Some n }
+    else decide_from (suc n) rs room group
 
 abbrev pub decide : List Rule → List ℕ → List ℕ → Decision
 decide policy room group = decide_from 0 policy room group
@@ -72,15 +74,14 @@ abbrev pub allows_all : Level → List ClientMsg → Bool
 allows_all level [] = true
 allows_all level (m ∷ ms) = nat_le (rank (need_of m)) (rank level) && allows_all level ms
 
--- where no access was asked for, everything may be done
-abbrev pub may_do : Option Decision → List ClientMsg → Bool
-may_do None ms = true
-may_do (Some d) ms = allows_all d.level ms
+-- the decision that bars these messages, if one does; where no access was asked for, everything may be done
+abbrev pub barred : Option Decision → List ClientMsg → Option Decision
+barred None ms = None
+barred (Some d) ms = if allows_all d.level ms then None else Some d
 
 abbrev pub row_text : Option ℕ → List ℕ
 row_text None = codes "no row"
 row_text (Some n) = codes "row " ++ decimal n
 
-abbrev pub refusal_text : Option Decision → List ℕ
-refusal_text None = codes "may not write no row"
-refusal_text (Some d) = codes "may not write " ++ row_text d.row
+abbrev pub refusal_text : Decision → List ℕ
+refusal_text d = codes "may not write " ++ row_text d.row

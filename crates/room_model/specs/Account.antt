@@ -28,7 +28,8 @@ pub record Batch : Type 0 where
   pub first : ℕ
   pub bodies : List Body
 
--- the open batch: its operations so far, the changes that go back, the newest first, and the presence keys patched in it
+-- the open batch: its operations so far, the changes that go back, the newest first, and the presence keys patched
+-- in it, in byte order
 pub record OpenBatch : Type 0 where
   pub bodies : List Body
   pub changes : List Change
@@ -53,7 +54,7 @@ pub record Account : Type 0 where
   pub parts : List Part
   pub node : ℕ  -- the next node clock
   pub me : List (List ℕ × Value)  -- its own presence
-  pub unsent : List (List ℕ)  -- the presence keys not yet sent to all
+  pub unsent : List (List ℕ)  -- the presence keys not yet sent to all, in byte order
   pub others : Others
   pub events : List Json  -- queued
   pub history : History

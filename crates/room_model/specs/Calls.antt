@@ -1,4 +1,14 @@
 -- The calls of a client's user, and what each does to the account.
+--
+-- Each call is an entry of its own, with its tests in this order:
+--   `edit`                      there is a tree; the tests of `make`; the size of the batch's frame
+--   `batch_begin`, `batch_end`  whether a batch is open
+--   `go_back` (undo, redo)      no batch is open; there is an entry; its clocks are left; the size of the batch's
+--   frame,
+--                               then that of the presence
+--   `presence`                  the depth of its values, then its size
+--   `event`                     the connection, the depth, the size
+-- `flushed` and `resent` stand with the frames that they send.
 use Rattle.std.specs.Prelude.{ℕ, ◌+◌, Bool, true, false, ◌&&◌, not, if◌then◌else◌, nat_lt, List, [], ◌∷◌, ◌++◌, map, length, Option, Some, None, Result, Ok, Err}
 use Rattle.room_json.specs.Value.{Value, depth, merged}
 use Rattle.room_json.specs.View.{json_of}
@@ -38,9 +48,6 @@ pub record Done : Type 0 where
   pub account : Account
   pub issues : List Batch
   pub notices : List Notice
-
-abbrev pub nothing_done : Account → Done
-nothing_done x = record { account = x; issues = []; notices = [] }
 
 abbrev pub op_change : Body → Change
 op_change b = OpChange b
@@ -160,20 +167,20 @@ tree_or_bare None = empty_tree
 tree_or_bare (Some t) = t
 
 -- which way an entry goes
-pub data Way : Type 0 where
-  Undo : Way
-  Redo : Way
+pub data Direction : Type 0 where
+  Undo : Direction
+  Redo : Direction
 
-abbrev pub entry_of : Way → History → Option (List Change)
+abbrev pub entry_of : Direction → History → Option (List Change)
 entry_of Undo h = undo_entry h
 entry_of Redo h = redo_entry h
 
-abbrev pub gone : Way → List Change → History → History
+abbrev pub gone : Direction → List Change → History → History
 gone Undo reversal h = undone reversal h
 gone Redo reversal h = redone reversal h
 
 -- its operations as one batch with new clocks, and its patches; the reversal goes on the other list
-abbrev pub went_back : Way → Account → List Change → Done
+abbrev pub went_back : Direction → Account → List Change → Done
 went_back way x entry =
     let t = tree_or_bare (shown x) in
     let bs = entry_bodies entry in
@@ -192,28 +199,31 @@ went_back way x entry =
 abbrev pub presence_size : List (List ℕ × Value) → ℕ
 presence_size me = size_of (frame_of_full_to 4294967295 me)
 
-abbrev pub back_presence : Way → Account → List Change → ℕ → Result (Option Done) UndoFault
-back_presence way x entry size = if nat_lt most_bytes size then Err (UndoTooLarge size) else Ok (Some (went_back way x entry))
+abbrev pub back_presence : Direction → Account → List Change → ℕ → Result (Option Done) UndoFault
+back_presence way x entry size =
+    if nat_lt most_bytes size then Err (UndoTooLarge size) else Ok (Some (went_back way x entry))
 
-abbrev pub back_sized : Way → Account → List Change → List Body → ℕ → Result (Option Done) UndoFault
+abbrev pub back_sized : Direction → Account → List Change → List Body → ℕ → Result (Option Done) UndoFault
 back_sized way x entry bs size =
     if is_some_list bs && nat_lt most_bytes size then Err (UndoBatchTooLarge size)
     else back_presence way x entry (presence_size (entry_presence x.me entry))
 
-abbrev pub back_clocked : Way → Account → List Change → List Body → Option ℕ → Result (Option Done) UndoFault
+abbrev pub back_clocked : Direction → Account → List Change → List Body → Option ℕ → Result (Option Done) UndoFault
 back_clocked way x entry bs (Some last) = Err (UndoClocksSpent last)
-back_clocked way x entry bs None = back_sized way x entry bs (size_of (frame_of_ops (ops_from (actor x) (last_issued x + 1) bs)))
+back_clocked way x entry bs None =
+    back_sized way x entry bs (size_of (frame_of_ops (ops_from (actor x) (last_issued x + 1) bs)))
 
-abbrev pub back_entry : Way → Account → Option (List Change) → Result (Option Done) UndoFault
+abbrev pub back_entry : Direction → Account → Option (List Change) → Result (Option Done) UndoFault
 back_entry way x None = Ok None
-back_entry way x (Some entry) = back_clocked way x entry (entry_bodies entry) (spent (last_issued x + 1) (length (entry_bodies entry)))
+back_entry way x (Some entry) =
+    back_clocked way x entry (entry_bodies entry) (spent (last_issued x + 1) (length (entry_bodies entry)))
 
-abbrev pub back_at : Way → Account → Option OpenBatch → Result (Option Done) UndoFault
+abbrev pub back_at : Direction → Account → Option OpenBatch → Result (Option Done) UndoFault
 back_at way x (Some o) = Err UndoInBatch
 back_at way x None = back_entry way x (entry_of way x.history)
 
 -- None where there is no entry: nothing changes
-abbrev pub go_back : Way → Account → Result (Option Done) UndoFault
+abbrev pub go_back : Direction → Account → Result (Option Done) UndoFault
 go_back way x = back_at way x x.batch
 
 abbrev pub pause : Account → Account
@@ -236,7 +246,8 @@ pub data SayFault : Type 0 where
 
 abbrev pub open_patched : List Change → List (List ℕ × Value) → Option OpenBatch → Option OpenBatch
 open_patched back patch None = None
-open_patched back patch (Some o) = Some (record { bodies = o.bodies; changes = back ++ o.changes; keys = with_names o.keys patch })
+open_patched back patch (Some o) =
+    Some (record { bodies = o.bodies; changes = back ++ o.changes; keys = with_names o.keys patch })
 
 abbrev pub noted_alone : List Change → History → Option OpenBatch → History
 noted_alone back h None = note back h
@@ -264,7 +275,8 @@ presence x patch in_history =
     else presence_sized x patch in_history (presence_size (merged x.me patch))
 
 abbrev pub event_sized : Account → Json → ℕ → Result Account SayFault
-event_sized x e size = if nat_lt most_bytes size then Err (TooLarge size) else Ok (record x { events = x.events ++ e ∷ [] })
+event_sized x e size =
+    if nat_lt most_bytes size then Err (TooLarge size) else Ok (record x { events = x.events ++ e ∷ [] })
 
 abbrev pub event : Account → Json → Result Account SayFault
 event x e =

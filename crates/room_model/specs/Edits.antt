@@ -1,4 +1,9 @@
 -- Edits: the operations that they make on a tree, or why they are refused.
+--
+-- The entry is `make`. Its tests in their order: the node is there (`make_at`), is of the kind that the edit needs, and
+-- the
+-- indices are in the list (`make_of`); the depth of the values, then that of the nodes; the length of the positions
+-- (`placed`); the node clocks, then the operation clocks (`clocked`).
 use Rattle.std.specs.Prelude.{ℕ, ◌+◌, ◌-◌, ◌==◌, Bool, true, false, ◌||◌, not, if◌then◌else◌, nat_lt, nat_le, is_some, max, List, [], ◌∷◌, ◌++◌, length, insert, remove, slice_get, slice_set, Option, Some, None, Result, Ok, Err}
 use Rattle.std.specs.Ordering.{nat_cmp}
 use Rattle.std.specs.Cmp.Lexicographic.{slice_cmp}
@@ -151,7 +156,8 @@ inserted_key cs i =
 abbrev pub moved_key : List (List ℕ × NodeId) → ℕ → ℕ → List ℕ
 moved_key cs f t =
     if nat_lt f t
-    then (if t + 1 == length cs then after_position (key_at cs t) else between_positions (key_at cs t) (Some (key_at cs (t + 1))))
+    then (if t + 1 == length cs then after_position (key_at cs t)
+    else between_positions (key_at cs t) (Some (key_at cs (t + 1))))
     else (if t == 0 then before_position (key_at cs 0) else between_positions (key_at cs (t - 1)) (Some (key_at cs t)))
 
 -- the positions that an edit makes, in the order of its operations
@@ -253,7 +259,8 @@ make_of t c e n =
     first (indices (length cs) e) (λ (o : Option ℕ).
     if nat_lt 50 (value_depth e) then Err (ValueTooDeep (value_depth e)) else (
     if nat_lt 60 (made_depth n.kind (n.depth + 1) e) then Err (NodeTooDeep (made_depth n.kind (n.depth + 1) e)) else
-    placed c (made_nodes n.kind e) (bodies n.kind cs (removed_child t e) c.actor c.node e) (too_long (made_positions cs e))))
+    placed c (made_nodes n.kind e) (bodies n.kind cs (removed_child t e) c.actor c.node e)
+    (too_long (made_positions cs e))))
 
 abbrev pub make_at : Nodes → Clocks → Edit → Option Node → Result Made EditFault
 make_at t c e None = Err (NoNode (target e))
@@ -263,7 +270,8 @@ make_at t c e (Some n) = make_of t c e n
 abbrev pub make : Nodes → Clocks → Edit → Result Made EditFault
 make t c e = make_at t c e (get t (target e))
 
--- the named effect on the view of the node: all else of it stays
+-- The named effect on the view of the node: all else of it stays. No law speaks of it yet; it is for the one that the
+-- operations of an edit have this effect.
 
 abbrev pub on_members : (List (List ℕ × Value) → List (List ℕ × Value)) → Value → Value
 on_members f (members fs) = members (fields_of (f (fields_list fs)))

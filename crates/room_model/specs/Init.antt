@@ -140,14 +140,17 @@ made_id actor clock = Made (record { actor = actor; clock = clock })
 abbrev mutual
   pub creates : ℕ → ℕ → NodeId → List ℕ → Option NodeId → Init → List Body
   creates a c p k r (Plain v) = Create (made_id a c) p k r (Register (json_in v)) ∷ []
-  creates a c p k r (AnObject ps) = Create (made_id a c) p k r (Object (plain_fields ps)) ∷ live_creates a (suc c) (made_id a c) ps
+  creates a c p k r (AnObject ps) =
+      Create (made_id a c) p k r (Object (plain_fields ps)) ∷ live_creates a (suc c) (made_id a c) ps
   creates a c p k r (AMap ps) = Create (made_id a c) p k r Map ∷ part_creates a (suc c) (made_id a c) ps
-  creates a c p k r (AList is) = Create (made_id a c) p k r Listed ∷ item_creates a (suc c) (made_id a c) first_position is
+  creates a c p k r (AList is) =
+      Create (made_id a c) p k r Listed ∷ item_creates a (suc c) (made_id a c) first_position is
 
   pub live_creates : ℕ → ℕ → NodeId → Parts → List Body
   live_creates a c x no_parts = []
   live_creates a c x (part k i ps) =
-      (if is_plain i then [] else creates a c x k None i) ++ live_creates a (c + (if is_plain i then 0 else nodes_in i)) x ps
+      (if is_plain i then [] else creates a c x k None i)
+      ++ live_creates a (c + (if is_plain i then 0 else nodes_in i)) x ps
 
   pub part_creates : ℕ → ℕ → NodeId → Parts → List Body
   part_creates a c x no_parts = []

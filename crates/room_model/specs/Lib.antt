@@ -1,13 +1,13 @@
 pub mod Access
 pub mod Account
 pub mod Calls
-pub mod Comes
 pub mod Edits
 pub mod History
 pub mod Init
 pub mod Lines
 pub mod Notices
 pub mod Presence
+pub mod Receive
 pub mod Run
 pub mod Samples
 pub mod Server

@@ -13,7 +13,7 @@ use Rattle.room_model.specs.Presence.{others_value}
 use Rattle.room_model.specs.Notices.{Notice, notices_value}
 use Rattle.room_model.specs.Account.{Account, shown, unacknowledged}
 use Rattle.room_model.specs.Calls.{BatchFault, InBatch, NoBatch, UndoFault, UndoInBatch, UndoClocksSpent, UndoBatchTooLarge, UndoTooLarge, SayFault, NotConnected, ValueTooDeep as SayTooDeep, TooLarge}
-use Rattle.room_model.specs.Comes.{FrameFault, BadServerFrame, Unexpected, NotATree, Gap, AccountFault, Parts}
+use Rattle.room_model.specs.Receive.{FrameFault, BadServerFrame, Unexpected, NotATree, Gap, AccountFault, Parts}
 use Rattle.room_model.specs.Server.{reason_text}
 use Rattle.room_log.specs.Log.{State}
 
@@ -23,42 +23,57 @@ pub data How : Type 0 where
   New : How
   Torn : How
 
--- a client by its number, or the server
-pub data Spot : Type 0 where
-  AClient : ℕ → Spot
-  TheServer : Spot
+-- what the user of a client calls
+pub data Call : Type 0 where
+  Dial : Call
+  Edits : Edit → Call
+  Begin : Call
+  End : Call
+  Undo : Call
+  Redo : Call
+  Pause : Call
+  Resume : Call
+  Clear : Call
+  Presence : (patch : List (List ℕ × Value)) → (in_history : Bool) → Call
+  Event : Json → Call
+  Flush : Call
+  Resend : Call
+  Cut : Call
 
+-- what is asked of a client, which changes nothing
+pub data Question : Type 0 where
+  Show : Question
+  Brief : Question
+  ShowOthers : Question
+  ShowHistory : Question
+  ShowNotices : Question
+
+-- what happens on a connection: the server receives the next frame (up), the client or the link receives the next one
+-- (down), the server notices that the connection is gone, and a text is sent on a link
+pub data Traffic : Type 0 where
+  Up : Traffic
+  Down : Traffic
+  Gone : Traffic
+  Raw : (text : List ℕ) → Traffic
+
+-- what happens to the server, and what is asked of it
+pub data Service : Type 0 where
+  Stop : Service
+  Start : Service
+  Fuse : (calls : ℕ) → How → Service
+  Compact : Service
+  Limit : (updates : ℕ) → (sessions : ℕ) → Service
+  ShowServer : Service
+  BriefServer : Service
+
+-- a line of a schedule; `Link` opens a connection without a client
 pub data Line : Type 0 where
-  Dial : (client : ℕ) → Line
-  Edits : (client : ℕ) → Edit → Line
-  Begin : (client : ℕ) → Line
-  End : (client : ℕ) → Line
-  Undo : (client : ℕ) → Line
-  Redo : (client : ℕ) → Line
-  Pause : (client : ℕ) → Line
-  Resume : (client : ℕ) → Line
-  Clear : (client : ℕ) → Line
-  Presence : (client : ℕ) → (patch : List (List ℕ × Value)) → (in_history : Bool) → Line
-  Event : (client : ℕ) → Json → Line
-  Flush : (client : ℕ) → Line
-  Resend : (client : ℕ) → Line
-  Goes_up : (conn : ℕ) → Line
-  Comes_down : (conn : ℕ) → Line
+  OfClient : (client : ℕ) → Call → Line
+  AsksClient : (client : ℕ) → Question → Line
+  OfConnection : (conn : ℕ) → Traffic → Line
+  OfServer : Service → Line
   Drain : ℕ → Line
-  Cut : (client : ℕ) → Line
-  Gone : (conn : ℕ) → Line
-  Stop : Line
-  Start : Line
-  Fuse : (calls : ℕ) → How → Line
-  Compact : Line
-  Limit : (updates : ℕ) → (sessions : ℕ) → Line
   Link : Line
-  Raw : (conn : ℕ) → (text : List ℕ) → Line
-  Show : Spot → Line
-  Brief : Spot → Line
-  Others : (client : ℕ) → Line
-  HistoryOf : (client : ℕ) → Line
-  NoticesOf : (client : ℕ) → Line
 
 -- words, with one space between them
 abbrev pub words : List (List ℕ) → List ℕ
@@ -110,7 +125,15 @@ refused_line line ws = words (codes "refused" ∷ decimal line ∷ ws)
 abbrev pub nothing_line : ℕ → List ℕ
 nothing_line line = words (codes "nothing" ∷ decimal line ∷ [])
 
--- of a client: its number, the updates that it took, its batches that aren't acknowledged, and the tree that it shows
+-- Of a client: its mark, the updates that it took, its batches that aren't acknowledged, and the tree that it shows.
+-- The mark of a client is its number in a schedule; a script has one client, whose lines have no mark.
+
+abbrev pub mark_words : Option ℕ → List (List ℕ)
+mark_words None = []
+mark_words (Some c) = decimal c ∷ []
+
+abbrev pub marked : List ℕ → Option ℕ → List (List ℕ) → List ℕ
+marked name mark ws = words (name ∷ (mark_words mark ++ ws))
 
 abbrev pub object_text : List (List ℕ × Value) → List ℕ
 object_text fs = text_of (members (fields_of fs))
@@ -118,37 +141,53 @@ object_text fs = text_of (members (fields_of fs))
 abbrev pub tree_text : Nodes → List ℕ
 tree_text t = text_of (view t)
 
-abbrev pub loaded_line : ℕ → Account → List (List ℕ) → List ℕ
-loaded_line c x ws = words (codes "client" ∷ decimal c ∷ codes "n" ∷ decimal x.n ∷ codes "pending" ∷ decimal (unacknowledged x) ∷ ws)
+abbrev pub loaded_line : Option ℕ → Account → List (List ℕ) → List ℕ
+loaded_line mark x ws =
+    marked (codes "client") mark
+    (codes "n" ∷ decimal x.n ∷ codes "pending" ∷ decimal (unacknowledged x) ∷ ws)
 
-abbrev pub not_loaded_line : ℕ → List ℕ
-not_loaded_line c = words (codes "client" ∷ decimal c ∷ codes "not" ∷ codes "loaded" ∷ [])
+abbrev pub not_loaded_line : Option ℕ → List ℕ
+not_loaded_line mark = marked (codes "client") mark (codes "not" ∷ codes "loaded" ∷ [])
 
-abbrev pub show_at : ℕ → Account → Option Nodes → List ℕ
-show_at c x None = not_loaded_line c
-show_at c x (Some t) = loaded_line c x (tree_text t ∷ [])
+abbrev pub show_at : Option ℕ → Account → Option Nodes → List ℕ
+show_at mark x None = not_loaded_line mark
+show_at mark x (Some t) = loaded_line mark x (tree_text t ∷ [])
 
-abbrev pub show_line : ℕ → Account → List ℕ
-show_line c x = show_at c x (shown x)
+abbrev pub show_line : Option ℕ → Account → List ℕ
+show_line mark x = show_at mark x (shown x)
 
-abbrev pub brief_at : ℕ → Account → Option Nodes → List ℕ
-brief_at c x None = not_loaded_line c
-brief_at c x (Some t) = loaded_line c x (codes "nodes" ∷ decimal (len t) ∷ [])
+abbrev pub brief_at : Option ℕ → Account → Option Nodes → List ℕ
+brief_at mark x None = not_loaded_line mark
+brief_at mark x (Some t) = loaded_line mark x (codes "nodes" ∷ decimal (len t) ∷ [])
 
-abbrev pub brief_line : ℕ → Account → List ℕ
-brief_line c x = brief_at c x (shown x)
+abbrev pub brief_line : Option ℕ → Account → List ℕ
+brief_line mark x = brief_at mark x (shown x)
 
-abbrev pub others_line : ℕ → Account → List ℕ
-others_line c x = words (codes "others" ∷ decimal c ∷ object_text x.me ∷ text_of (others_value x.others) ∷ [])
+abbrev pub others_line : Option ℕ → Account → List ℕ
+others_line mark x = marked (codes "others") mark (object_text x.me ∷ text_of (others_value x.others) ∷ [])
 
-abbrev pub history_line : ℕ → Account → List ℕ
-history_line c x = words (codes "history" ∷ decimal c ∷ codes "undo" ∷ decimal (undo_count x.history) ∷ codes "redo" ∷ decimal (redo_count x.history) ∷ [])
+abbrev pub history_line : Option ℕ → Account → List ℕ
+history_line mark x =
+    marked (codes "history") mark
+    (codes "undo" ∷ decimal (undo_count x.history) ∷ codes "redo" ∷ decimal (redo_count x.history) ∷ [])
 
-abbrev pub notices_line : ℕ → List Notice → List ℕ
-notices_line c ns = words (codes "notices" ∷ decimal c ∷ text_of (notices_value ns) ∷ [])
+abbrev pub notices_line : Option ℕ → List Notice → List ℕ
+notices_line mark ns = marked (codes "notices") mark (text_of (notices_value ns) ∷ [])
 
-abbrev pub event_line : ℕ → ℕ × Json → List ℕ
-event_line c e = words (codes "event" ∷ decimal c ∷ decimal e.0 ∷ text_of (json_of e.1) ∷ [])
+abbrev pub event_line : Option ℕ → ℕ × Json → List ℕ
+event_line mark e = marked (codes "event") mark (decimal e.0 ∷ text_of (json_of e.1) ∷ [])
+
+abbrev pub event_lines : Option ℕ → List (ℕ × Json) → List (List ℕ)
+event_lines mark [] = []
+event_lines mark (e ∷ es) = event_line mark e ∷ event_lines mark es
+
+-- what a client answers to a question, with the last notices that it was told
+abbrev pub answer_line : Option ℕ → Account → List Notice → Question → List ℕ
+answer_line mark x ns Show = show_line mark x
+answer_line mark x ns Brief = brief_line mark x
+answer_line mark x ns ShowOthers = others_line mark x
+answer_line mark x ns ShowHistory = history_line mark x
+answer_line mark x ns ShowNotices = notices_line mark ns
 
 -- of a connection
 
@@ -164,7 +203,9 @@ abbrev pub server_line : State → List ℕ
 server_line s = words (codes "server" ∷ codes "n" ∷ decimal s.count ∷ tree_text s.tree ∷ [])
 
 abbrev pub server_brief_line : State → List ℕ
-server_brief_line s = words (codes "server" ∷ codes "n" ∷ decimal s.count ∷ codes "nodes" ∷ decimal (len s.tree) ∷ codes "sessions" ∷ decimal (length s.sessions) ∷ [])
+server_brief_line s =
+    words (codes "server" ∷ codes "n" ∷ decimal s.count ∷ codes "nodes" ∷ decimal (len s.tree)
+    ∷ codes "sessions" ∷ decimal (length s.sessions) ∷ [])
 
 abbrev pub server_stopped_line : List ℕ
 server_stopped_line = words (codes "server" ∷ codes "stopped" ∷ [])

@@ -138,11 +138,13 @@ set_names set unset (members fs) = Some (members (fields_of (without_names unset
 set_names set unset v = None
 
 abbrev pub insert_item : ℕ → Value → Value → Option Value
-insert_item i w (list vs) = if nat_le i (length (values_list vs)) then Some (list (values_of (insert (values_list vs) i w))) else None
+insert_item i w (list vs) =
+    if nat_le i (length (values_list vs)) then Some (list (values_of (insert (values_list vs) i w))) else None
 insert_item i w v = None
 
 abbrev pub take_item : ℕ → Value → Option Value
-take_item i (list vs) = if nat_lt i (length (values_list vs)) then Some (list (values_of (remove (values_list vs) i))) else None
+take_item i (list vs) =
+    if nat_lt i (length (values_list vs)) then Some (list (values_of (remove (values_list vs) i))) else None
 take_item i v = None
 
 abbrev pub move_item : ℕ → Value → Option Value → Option Value
@@ -169,7 +171,8 @@ step_out s v w = v
 -- what stands at the path changes, and all else stays
 abbrev pub at_path : List Place → (Value → Option Value) → Value → Option Value
 at_path [] f v = f v
-at_path (s ∷ ss) f v = option_and_then (λ (w : Value). option_map (λ (y : Value). step_out s v y) (at_path ss f w)) (step_into s v)
+at_path (s ∷ ss) f v =
+    option_and_then (λ (w : Value). option_map (λ (y : Value). step_out s v y) (at_path ss f w)) (step_into s v)
 
 abbrev pub applied : Notice → Value → Option Value
 applied (Fields path set unset) v = at_path path (set_names set unset) v
@@ -204,14 +207,21 @@ path_out path = list (values_of (map place_out path))
 
 abbrev pub keyed_out : List ℕ → List Place → List (List ℕ × Value) → List (List ℕ) → Value
 keyed_out kind path set unset = object_of (
-    (codes "kind", text kind) ∷ (codes "path", path_out path) ∷ (codes "set", members (fields_of set)) ∷ (codes "unset", list (values_of (map text unset))) ∷ [])
+    (codes "kind", text kind) ∷ (codes "path", path_out path) ∷ (codes "set", members (fields_of set))
+    ∷ (codes "unset", list (values_of (map text unset))) ∷ [])
 
 abbrev pub notice_out : Notice → Value
 notice_out (Fields path set unset) = keyed_out (codes "fields") path set unset
 notice_out (Keys path set unset) = keyed_out (codes "keys") path set unset
-notice_out (Insert path i v) = object_of ((codes "index", whole (pos i)) ∷ (codes "kind", text (codes "insert")) ∷ (codes "path", path_out path) ∷ (codes "value", v) ∷ [])
-notice_out (Take path i) = object_of ((codes "index", whole (pos i)) ∷ (codes "kind", text (codes "take")) ∷ (codes "path", path_out path) ∷ [])
-notice_out (Move path f t) = object_of ((codes "from", whole (pos f)) ∷ (codes "kind", text (codes "move")) ∷ (codes "path", path_out path) ∷ (codes "to", whole (pos t)) ∷ [])
+notice_out (Insert path i v) =
+    object_of ((codes "index", whole (pos i)) ∷ (codes "kind", text (codes "insert")) ∷ (codes "path", path_out path)
+    ∷ (codes "value", v) ∷ [])
+notice_out (Take path i) =
+    object_of ((codes "index", whole (pos i)) ∷ (codes "kind", text (codes "take")) ∷ (codes "path", path_out path)
+    ∷ [])
+notice_out (Move path f t) =
+    object_of ((codes "from", whole (pos f)) ∷ (codes "kind", text (codes "move")) ∷ (codes "path", path_out path)
+    ∷ (codes "to", whole (pos t)) ∷ [])
 notice_out (Reset v) = object_of ((codes "kind", text (codes "reset")) ∷ (codes "view", v) ∷ [])
 
 abbrev pub notices_value : List Notice → Value

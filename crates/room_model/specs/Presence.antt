@@ -1,5 +1,7 @@
 -- Presence: a small object of each user, which isn't stored.
 use Rattle.std.specs.Prelude.{ℕ, Bool, false, ◌&&◌, ◌||◌, not, if◌then◌else◌, List, [], ◌∷◌, ◌++◌, map, decimal, Option, Some, None}
+use Rattle.std.specs.declared.cmp.Ordering.{Ordering}
+use Rattle.std.specs.declared.cmp.Ordering.TheVariants.{Less, Equal, Greater}
 use Rattle.std.specs.Ordering.{nat_cmp, eq_by_cmp}
 use Rattle.std.specs.Cmp.Lexicographic.{slice_cmp}
 use Rattle.std.specs.FinMap.{FinMap, get, insert, remove, entries, empty, find}
@@ -34,15 +36,21 @@ other_out e = (decimal e.0, members (fields_of e.1))
 abbrev pub others_value : Others → Value
 others_value os = object_of (map other_out (entries os))
 
--- names of presence keys
+-- names of presence keys: a set, as a list in byte order
 
 abbrev pub is_among : List ℕ → List (List ℕ) → Bool
 is_among k [] = false
 is_among k (n ∷ ns) = eq_by_cmp (slice_cmp nat_cmp) k n || is_among k ns
 
--- each name once
+-- a name before, at or behind the first one: `more` has it among those behind
+abbrev pub with_name_by : Ordering → List ℕ → List ℕ → List (List ℕ) → List (List ℕ) → List (List ℕ)
+with_name_by Less k n ns more = k ∷ n ∷ ns
+with_name_by Equal k n ns more = n ∷ ns
+with_name_by Greater k n ns more = n ∷ more
+
 abbrev pub with_name : List (List ℕ) → List ℕ → List (List ℕ)
-with_name ns k = if is_among k ns then ns else ns ++ k ∷ []
+with_name [] k = k ∷ []
+with_name (n ∷ ns) k = with_name_by (slice_cmp nat_cmp k n) k n ns (with_name ns k)
 
 abbrev pub with_names : List (List ℕ) → List (List ℕ × Value) → List (List ℕ)
 with_names ns [] = ns
@@ -57,7 +65,9 @@ kept_names (n ∷ ns) ks = if is_among n ks then n ∷ kept_names ns ks else kep
 abbrev pub unsent_members : List (List ℕ) → List (List ℕ) → List (List ℕ × Value) → List (List ℕ × Value)
 unsent_members unsent held [] = []
 unsent_members unsent held (f ∷ fs) =
-    if is_among f.0 unsent && not (is_among f.0 held) then f ∷ unsent_members unsent held fs else unsent_members unsent held fs
+    if is_among f.0 unsent && not (is_among f.0 held)
+    then f ∷ unsent_members unsent held fs
+    else unsent_members unsent held fs
 
 -- the old value of each key of a patch, null for one that wasn't there
 

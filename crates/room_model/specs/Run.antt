@@ -1,9 +1,8 @@
 -- A run over a schedule: its report, its log, and what clients issued.
 use Rattle.std.specs.Prelude.{◌≡◌, ℕ, ◌==◌, Bool, true, false, ◌&&◌, ◌||◌, not, if◌then◌else◌, List, [], ◌∷◌, ◌++◌, Option, Some, None}
-use Rattle.std.specs.FinMap.{get}
 use Rattle.room_log.specs.Log.{State, Entry}
-use Rattle.room_model.specs.Account.{Account, Batch, actor}
-use Rattle.room_model.specs.World.{World, Seat, Stepped, new_seat, opening, step}
+use Rattle.room_model.specs.Account.{Batch, actor}
+use Rattle.room_model.specs.World.{World, Stepped, account, opening, step}
 use Rattle.room_model.specs.Lines.{Line}
 
 pub record Run : Type 0 where
@@ -14,7 +13,12 @@ pub record Run : Type 0 where
 
 -- the run after a step
 abbrev pub with_step : Run → Stepped → Run
-with_step r out = record { world = out.world; log = r.log ++ out.entries; issued = r.issued ++ out.issues; given = r.given ++ out.given }
+with_step r out = record {
+  world = out.world;
+  log = r.log ++ out.entries;
+  issued = r.issued ++ out.issues;
+  given = r.given ++ out.given;
+}
 
 abbrev pub line : Run → ℕ → Line → Run
 line r number l = with_step r (step r.world number l)
@@ -40,18 +44,6 @@ report_from w (l ∷ ls) = text_of_lines (step w l.0 l.1).lines ++ report_from (
 -- the report of a schedule, a function of it and of the opening state
 abbrev pub report : State → List (ℕ × Line) → List ℕ
 report s ls = report_from (opening s) ls
-
--- what a client is, whether or not it had a line yet
-
-abbrev pub seat_in : Option Seat → Seat
-seat_in None = new_seat
-seat_in (Some p) = p
-
-abbrev pub seat : World → ℕ → Seat
-seat w c = seat_in (get w.clients c)
-
-abbrev pub account : World → ℕ → Account
-account w c = (seat w c).account
 
 -- all batches that a client issued, in order
 abbrev pub issued_of : ℕ → List (ℕ × Batch) → List Batch

@@ -1,4 +1,17 @@
 -- A step of the server: what it answers a frame, and what it takes into the log.
+--
+-- The entry is `serve`, a frame of a connection. Its tests stand in this order; the first that fails closes:
+--   `frame_at`       a ping is answered; the text is a frame
+--   `messages`       without a session there is just a hello (`hello`), to this room; then the session that it resumes
+--   is
+--                    there with that key, or there are fewer sessions than the limit (`greet`); then its level is to
+--                    read
+--                    (`admit`)
+--   `session_frame`  no message is a hello
+--   `owned`          no operation is of another actor
+--   `permitted`      no message needs a higher level
+--   `taken`          the clocks have no gap; then there are fewer updates than the limit
+-- What passes acts message by message (`act_all`). A connection is new by `opened`, and ends by `gone`.
 use Rattle.std.specs.Prelude.{ℕ, zero, suc, ◌+◌, ◌==◌, ℤ, pos, negsuc, Bool, true, false, ◌&&◌, ◌||◌, not, if◌then◌else◌, nat_le, is_some, List, [], ◌∷◌, ◌++◌, length, take as front, drop, codes, decimal, Option, Some, None, Result, Ok, Err}
 use Rattle.std.specs.Ordering.{nat_cmp}
 use Rattle.std.specs.Str.{bytes_eq}
@@ -18,17 +31,17 @@ use Rattle.room_msg.specs.declared.reason.Reason.{Reason}
 use Rattle.room_msg.specs.declared.reason.Reason.TheVariants as reason
 use Rattle.room_log.specs.Log.{Session, State, Update, Entry, Join, Updated, actor_of, ops_of, session_of, last_of, name_in, joined, updated}
 use Rattle.room_log.specs.Take.{Taken, Nothing, Gap, Takes, take}
-use Rattle.room_model.specs.Access.{Access, Decision, decide, group_of, may_do, refusal_text}
+use Rattle.room_model.specs.Access.{Access, Decision, decide, group_of, barred, refusal_text}
 
--- what comes down a connection: a message, the answer to a ping, or a close with its code and text
-pub data Down : Type 0 where
-  Pong : Down
-  Message : ServerMsg → Down
-  Closed : (code : ℕ) → (text : List ℕ) → Down
+-- what is outbound on a connection: a message, the answer to a ping, or a close with its code and text
+pub data Outbound : Type 0 where
+  Pong : Outbound
+  Message : ServerMsg → Outbound
+  Closed : (code : ℕ) → (text : List ℕ) → Outbound
 
--- what goes up: what was read of a frame
-abbrev pub Up : Type 0
-Up = Result ClientFrame Reason
+-- what is inbound: what was read of a frame
+abbrev pub Inbound : Type 0
+Inbound = Result ClientFrame Reason
 
 -- an attached connection; its actor once it has a session, and what was decided at its hello where access was asked for
 pub record Link : Type 0 where
@@ -51,10 +64,10 @@ pub record Server : Type 0 where
 -- a step's outcome: the server, sends and closes in order, and at most one entry
 pub record Served : Type 0 where
   pub server : Server
-  pub outs : List (ℕ × Down)
+  pub outs : List (ℕ × Outbound)
   pub entry : Option Entry
 
-abbrev pub served : Server → List (ℕ × Down) → Served
+abbrev pub served : Server → List (ℕ × Outbound) → Served
 served v outs = record { server = v; outs = outs; entry = None }
 
 abbrev pub nothing : Server → Served
@@ -65,7 +78,7 @@ with_links v ls = record v { links = ls }
 
 -- sends to several connections go in rising order
 
-abbrev pub to_each : (Link → Bool) → Down → List (ℕ × Link) → List (ℕ × Down)
+abbrev pub to_each : (Link → Bool) → Outbound → List (ℕ × Link) → List (ℕ × Outbound)
 to_each p m [] = []
 to_each p m (e ∷ es) = if p e.1 then (e.0, m) ∷ to_each p m es else to_each p m es
 
@@ -83,12 +96,12 @@ abbrev pub holds : ℕ → Link → Bool
 holds a l = is_actor a l.actor
 
 -- to the attached connections with a session but this one
-abbrev pub to_others : FinMap nat_cmp Link → ℕ → ServerMsg → List (ℕ × Down)
+abbrev pub to_others : FinMap nat_cmp Link → ℕ → ServerMsg → List (ℕ × Outbound)
 to_others ls k m = to_each has_session (Message m) (entries (remove ls k))
 
 -- leaving
 
-abbrev pub left_to : FinMap nat_cmp Link → ℕ → Option ℕ → List (ℕ × Down)
+abbrev pub left_to : FinMap nat_cmp Link → ℕ → Option ℕ → List (ℕ × Outbound)
 left_to ls k None = []
 left_to ls k (Some a) = to_others ls k (server.Left a)
 
@@ -106,7 +119,8 @@ gone v k = gone_at v k (get v.links k)
 
 -- a new connection, with its key
 abbrev pub opened_at : Server → ℕ → ℕ → Option Link → Server
-opened_at v k key None = with_links v (insert v.links k (record { key = key; actor = None; fetched = false; decision = None }))
+opened_at v k key None =
+    with_links v (insert v.links k (record { key = key; actor = None; fetched = false; decision = None }))
 opened_at v k key (Some l) = v
 
 abbrev pub opened : Server → ℕ → ℕ → Server
@@ -146,10 +160,12 @@ abbrev pub users_of : List Session → FinMap nat_cmp Link → List (ℕ × List
 users_of ss ls = entries (from_entries {R = nat_cmp} (users_among ss (entries ls)))
 
 -- the session a, which the others are told of; `before` goes first
-abbrev pub welcome : Server → ℕ → ℕ → ℕ → List (ℕ × Down) → Option Entry → Served
+abbrev pub welcome : Server → ℕ → ℕ → ℕ → List (ℕ × Outbound) → Option Entry → Served
 welcome v k a key before entry = record {
   server = v;
-  outs = before ++ (k, Message (server.RoomState a key (users_of v.state.sessions (remove v.links k)))) ∷ to_others v.links k (server.Joined a);
+  outs =
+      before ++ (k, Message (server.RoomState a key (users_of v.state.sessions (remove v.links k))))
+      ∷ to_others v.links k (server.Joined a);
   entry = entry;
 }
 
@@ -168,7 +184,7 @@ join v k l h decision =
     (record v { state = joined v.state l.key (name_of h.name); links = insert v.links k (with_session l a decision) })
     k a l.key [] (Some (Join a l.key (name_of h.name)))
 
-abbrev pub elsewhere : Down
+abbrev pub elsewhere : Outbound
 elsewhere = Closed 4408 (codes "resumed elsewhere")
 
 abbrev pub not_held_by : ℕ → Option Link → Bool
@@ -194,10 +210,13 @@ abbrev pub admitted : Server → ℕ → Link → Hello → Option Resume → Op
 admitted v k l h None decision = join v k l h decision
 admitted v k l h (Some r) decision = resumed v k l r decision
 
+abbrev pub admit_unless : Server → ℕ → Link → Hello → Option Decision → Option Decision → Served
+admit_unless v k l h decision None = admitted v k l h h.resume decision
+admit_unless v k l h decision (Some bar) = shut v k l 4403 (refusal_text bar)
+
 -- a hello needs the level to read
 abbrev pub admit : Server → ℕ → Link → Hello → Option Decision → Served
-admit v k l h decision =
-    if may_do decision (client.Hello h ∷ []) then admitted v k l h h.resume decision else shut v k l 4403 (refusal_text decision)
+admit v k l h decision = admit_unless v k l h decision (barred decision (client.Hello h ∷ []))
 
 -- a session with that actor and key; the key 0 is nobody's to resume
 
@@ -207,7 +226,9 @@ has_key key (Some s) = (s.key == key) && not (key == 0)
 
 abbrev pub greet : Server → ℕ → Link → Hello → Option Resume → Served
 greet v k l h (Some r) =
-    if has_key r.key (session_of v.state.sessions r.actor) then admit v k l h (decision_of v h v.access) else shut v k l 4401 (codes "bad resume")
+    if has_key r.key (session_of v.state.sessions r.actor)
+    then admit v k l h (decision_of v h v.access)
+    else shut v k l 4401 (codes "bad resume")
 greet v k l h None =
     if nat_le v.limits.sessions (length v.state.sessions)
     then shut v k l 4406 (codes "sessions full " ++ decimal (length v.state.sessions))
@@ -263,12 +284,13 @@ commit v u = record {
 
 abbrev pub parts_within : ℕ → List Value → List (List Value × Bool)
 parts_within zero vs = (vs, false) ∷ []
-parts_within (suc n) vs = if nat_le (length vs) 1000 then (vs, false) ∷ [] else (front 1000 vs, true) ∷ parts_within n (drop 1000 vs)
+parts_within (suc n) vs =
+    if nat_le (length vs) 1000 then (vs, false) ∷ [] else (front 1000 vs, true) ∷ parts_within n (drop 1000 vs)
 
 abbrev pub parts_of : List Value → List (List Value × Bool)
 parts_of vs = parts_within (length vs) vs
 
-abbrev pub part_sends : ℕ → ℕ → ℕ → List (List Value × Bool) → List (ℕ × Down)
+abbrev pub part_sends : ℕ → ℕ → ℕ → List (List Value × Bool) → List (ℕ × Outbound)
 part_sends k seq last [] = []
 part_sends k seq last (p ∷ ps) = (k, Message (server.State seq last p.0 p.1)) ∷ part_sends k seq last ps
 
@@ -281,10 +303,11 @@ fetch v k a = served (fetched_at v k (get v.links k))
     (part_sends k v.state.count (last_of v.state.sessions a) (parts_of (items_of v.state.tree)))
 
 -- a presence goes to the others, or, full, to the connection of one actor, if it is attached
-abbrev pub presence_sends : Server → ℕ → ℕ → Option ℤ → List (List ℕ × Value) → List (ℕ × Down)
+abbrev pub presence_sends : Server → ℕ → ℕ → Option ℤ → List (List ℕ × Value) → List (ℕ × Outbound)
 presence_sends v k a None patch = to_others v.links k (server.Presence a None patch)
 presence_sends v k a (Some (negsuc n)) patch = to_others v.links k (server.Presence a (Some (negsuc n)) patch)
-presence_sends v k a (Some (pos b)) patch = to_each (holds b) (Message (server.Presence a (Some (pos b)) patch)) (entries v.links)
+presence_sends v k a (Some (pos b)) patch =
+    to_each (holds b) (Message (server.Presence a (Some (pos b)) patch)) (entries v.links)
 
 -- the messages of a frame act in order; all its operations make one update, done at the place of the first that holds
 -- operations of any number
@@ -294,7 +317,11 @@ or_entry None e = e
 or_entry (Some d) e = Some d
 
 abbrev pub then_served : Served → Served → Served
-then_served before out = record { server = out.server; outs = before.outs ++ out.outs; entry = or_entry before.entry out.entry }
+then_served before out = record {
+  server = out.server;
+  outs = before.outs ++ out.outs;
+  entry = or_entry before.entry out.entry;
+}
 
 abbrev pub update_acts : Server → Option Update → Served
 update_acts v None = nothing v
@@ -315,44 +342,50 @@ waits_after waits (client.Broadcast e) = waits
 waits_after waits client.Fetch = waits
 waits_after waits (client.Update os) = None
 
-abbrev pub act_all : Served → ℕ → ℕ → Option Update → List ClientMsg → Served
-act_all so_far k a waits [] = so_far
-act_all so_far k a waits (m ∷ ms) = act_all (then_served so_far (acts so_far.server k a waits m)) k a (waits_after waits m) ms
+abbrev pub act_all : Server → ℕ → ℕ → Option Update → List ClientMsg → Served
+act_all v k a waits [] = nothing v
+act_all v k a waits (m ∷ ms) =
+    let out = acts v k a waits m in
+    then_served out (act_all out.server k a (waits_after waits m) ms)
 
 -- the tests of a session's frame, after those of its text, in their order
 
 abbrev pub taken : Server → ℕ → Link → ℕ → List ClientMsg → Taken → Served
-taken v k l a ms Nothing = act_all (nothing v) k a None ms
+taken v k l a ms Nothing = act_all v k a None ms
 taken v k l a ms (Gap expected got) = shut v k l 4402 (expected_got (codes "clock gap") expected got)
 taken v k l a ms (Takes u) =
     if nat_le v.limits.updates v.state.count
     then shut v k l 4406 (codes "room full " ++ decimal v.state.count)
-    else act_all (nothing v) k a (Some u) ms
+    else act_all v k a (Some u) ms
+
+abbrev pub permitted_unless : Server → ℕ → Link → ℕ → List ClientMsg → Option Decision → Served
+permitted_unless v k l a ms None = taken v k l a ms (take v.state a (all_ops_in ms))
+permitted_unless v k l a ms (Some bar) = shut v k l 4403 (refusal_text bar)
 
 abbrev pub permitted : Server → ℕ → Link → ℕ → List ClientMsg → Served
-permitted v k l a ms =
-    if may_do l.decision ms then taken v k l a ms (take v.state a (all_ops_in ms)) else shut v k l 4403 (refusal_text l.decision)
+permitted v k l a ms = permitted_unless v k l a ms (barred l.decision ms)
 
 abbrev pub owned : Server → ℕ → Link → ℕ → List ClientMsg → Option ℕ → Served
 owned v k l a ms (Some got) = shut v k l 4404 (expected_got (codes "foreign actor") a got)
 owned v k l a ms None = permitted v k l a ms
 
 abbrev pub session_frame : Server → ℕ → Link → ℕ → List ClientMsg → Served
-session_frame v k l a ms = if has_hello ms then bad_frame v k l reason.Hello else owned v k l a ms (foreign_in a (all_ops_in ms))
+session_frame v k l a ms =
+    if has_hello ms then bad_frame v k l reason.Hello else owned v k l a ms (foreign_in a (all_ops_in ms))
 
 abbrev pub messages : Server → ℕ → Link → List ClientMsg → Option ℕ → Served
 messages v k l ms None = hello v k l (only_hello ms)
 messages v k l ms (Some a) = session_frame v k l a ms
 
-abbrev pub frame_at : Server → ℕ → Link → Up → Served
+abbrev pub frame_at : Server → ℕ → Link → Inbound → Served
 frame_at v k l (Err r) = bad_frame v k l r
 frame_at v k l (Ok Ping) = served v ((k, Pong) ∷ [])
 frame_at v k l (Ok (Msgs ms)) = messages v k l ms l.actor
 
 -- a frame of a connection that isn't attached is passed over
-abbrev pub serve_from : Server → ℕ → Up → Option Link → Served
-serve_from v k up None = nothing v
-serve_from v k up (Some l) = frame_at v k l up
+abbrev pub serve_from : Server → ℕ → Inbound → Option Link → Served
+serve_from v k inbound None = nothing v
+serve_from v k inbound (Some l) = frame_at v k l inbound
 
-abbrev pub serve : Server → ℕ → Up → Served
-serve v k up = serve_from v k up (get v.links k)
+abbrev pub serve : Server → ℕ → Inbound → Served
+serve v k inbound = serve_from v k inbound (get v.links k)

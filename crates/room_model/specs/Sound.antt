@@ -27,10 +27,10 @@ use Rattle.room_model.specs.History.{History}
 use Rattle.room_model.specs.Presence.{Others}
 use Rattle.room_model.specs.Account.{Account, Batch, OpenBatch, Stage, Synced, issued, ends, bodies_in, frame_of_event, size_of, most_bytes}
 use Rattle.room_model.specs.Calls.{entry_bodies, presence_size}
-use Rattle.room_model.specs.Comes.{parts_items}
-use Rattle.room_model.specs.Server.{Up}
+use Rattle.room_model.specs.Receive.{parts_items}
+use Rattle.room_model.specs.Server.{Inbound}
 use Rattle.room_model.specs.Lines as lines
-use Rattle.room_model.specs.Lines.{Line, Spot}
+use Rattle.room_model.specs.Lines.{Line}
 
 -- valid trees and operations: sound, and no value too deep for a frame
 
@@ -73,7 +73,11 @@ pub record HoldsOnly (P : List Change → Type 0) (h : History) : Type 0 where
 -- the clocks of these batches run on by ones after c, and none is empty
 abbrev pub RunsOn : ℕ → List Batch → Type 0
 RunsOn c [] = ⊤
-RunsOn c (b ∷ bs) = record { first : b.first ≡ c + 1; some : 0 < length b.bodies; more : RunsOn (c + length b.bodies) bs }
+RunsOn c (b ∷ bs) = record {
+  first : b.first ≡ c + 1;
+  some : 0 < length b.bodies;
+  more : RunsOn (c + length b.bodies) bs;
+}
 
 -- the clocks of an account run on from the last acknowledged one
 abbrev pub ClocksRunOn : Account → Type 0
@@ -95,7 +99,8 @@ pub record AreOwn (told : ℕ) (bs : List Batch) (o : Option OpenBatch) : Type 0
   pub changes : AreValidChanges (changes_in o)
   pub next : ends told bs + 1 + length (bodies_in o) ≤ most + 1
 
--- before the first state a client has made no operation: nothing is issued, and what goes back are patches of its presence
+-- before the first state a client has made no operation: nothing is issued, and what goes back are patches of its
+-- presence
 
 abbrev pub ArePatches : List Change → Type 0
 ArePatches cs = entry_bodies cs ≡ []
@@ -182,7 +187,7 @@ IsSoundEdit (edits.Take x n) = IsNodeInRange x
 IsSoundEdit (edits.Clear x) = IsNodeInRange x
 
 -- what is read of a frame is sound, as its reader says, and no deeper than the levels of a frame make it
-abbrev pub IsReadSound : Up → Type 0
+abbrev pub IsReadSound : Inbound → Type 0
 IsReadSound (Err reason) = ⊤
 IsReadSound (Ok f) = IsSoundClientFrame f × IsShallowClientFrame f
 
@@ -191,38 +196,41 @@ IsReadSound (Ok f) = IsSoundClientFrame f × IsShallowClientFrame f
 abbrev pub IsClient : ℕ → Type 0
 IsClient c = (1 ≤ c) × (c ≤ 64)
 
-abbrev pub IsSpot : Spot → Type 0
-IsSpot (lines.AClient c) = IsClient c
-IsSpot lines.TheServer = ⊤
+abbrev pub IsCall : lines.Call → Type 0
+IsCall lines.Dial = ⊤
+IsCall (lines.Edits e) = IsSoundEdit e
+IsCall lines.Begin = ⊤
+IsCall lines.End = ⊤
+IsCall lines.Undo = ⊤
+IsCall lines.Redo = ⊤
+IsCall lines.Pause = ⊤
+IsCall lines.Resume = ⊤
+IsCall lines.Clear = ⊤
+IsCall (lines.Presence patch in_history) = AreSoundMembers patch
+IsCall (lines.Event e) = IsJson (json_of e)
+IsCall lines.Flush = ⊤
+IsCall lines.Resend = ⊤
+IsCall lines.Cut = ⊤
+
+abbrev pub IsTraffic : lines.Traffic → Type 0
+IsTraffic lines.Up = ⊤
+IsTraffic lines.Down = ⊤
+IsTraffic lines.Gone = ⊤
+IsTraffic (lines.Raw text) = IsReadSound (client_frame_in text)
+
+abbrev pub IsService : lines.Service → Type 0
+IsService lines.Stop = ⊤
+IsService lines.Start = ⊤
+IsService (lines.Fuse calls how) = 1 ≤ calls
+IsService lines.Compact = ⊤
+IsService (lines.Limit updates sessions) = (updates ≤ most) × (sessions ≤ most_actor)
+IsService lines.ShowServer = ⊤
+IsService lines.BriefServer = ⊤
 
 abbrev pub IsLine : Line → Type 0
-IsLine (lines.Dial c) = IsClient c
-IsLine (lines.Edits c e) = IsClient c × IsSoundEdit e
-IsLine (lines.Begin c) = IsClient c
-IsLine (lines.End c) = IsClient c
-IsLine (lines.Undo c) = IsClient c
-IsLine (lines.Redo c) = IsClient c
-IsLine (lines.Pause c) = IsClient c
-IsLine (lines.Resume c) = IsClient c
-IsLine (lines.Clear c) = IsClient c
-IsLine (lines.Presence c patch in_history) = IsClient c × AreSoundMembers patch
-IsLine (lines.Event c e) = IsClient c × IsJson (json_of e)
-IsLine (lines.Flush c) = IsClient c
-IsLine (lines.Resend c) = IsClient c
-IsLine (lines.Goes_up k) = ⊤
-IsLine (lines.Comes_down k) = ⊤
+IsLine (lines.OfClient c call) = IsClient c × IsCall call
+IsLine (lines.AsksClient c question) = IsClient c
+IsLine (lines.OfConnection k traffic) = IsTraffic traffic
+IsLine (lines.OfServer service) = IsService service
 IsLine (lines.Drain n) = ⊤
-IsLine (lines.Cut c) = IsClient c
-IsLine (lines.Gone k) = ⊤
-IsLine lines.Stop = ⊤
-IsLine lines.Start = ⊤
-IsLine (lines.Fuse calls how) = 1 ≤ calls
-IsLine lines.Compact = ⊤
-IsLine (lines.Limit updates sessions) = (updates ≤ most) × (sessions ≤ most_actor)
 IsLine lines.Link = ⊤
-IsLine (lines.Raw k text) = IsReadSound (client_frame_in text)
-IsLine (lines.Show spot) = IsSpot spot
-IsLine (lines.Brief spot) = IsSpot spot
-IsLine (lines.Others c) = IsClient c
-IsLine (lines.HistoryOf c) = IsClient c
-IsLine (lines.NoticesOf c) = IsClient c

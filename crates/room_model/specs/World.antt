@@ -1,8 +1,15 @@
--- The world: a server, clients, and a queue up and down for each connection; and what each line of a schedule does.
+-- The world: a server, clients, an inbound and an outbound queue for each connection; what each line of a schedule
+-- does.
+--
+-- The entry is `step`, at the end. A line of a client is a call (`client_calls`), which changes its account and may
+-- send
+-- frames; a line of a connection (`conn_line`) moves what waits in its queues: the server receives (`server_receives`),
+-- or
+-- the client or the link does (`peer_receives`); a line of the server (`server_line`) stops it, starts it or sets what
+-- stops it; `drain` moves what waits until nothing does.
 use Rattle.std.specs.Prelude.{ℕ, zero, suc, ◌+◌, ◌-◌, Bool, true, false, ◌&&◌, if◌then◌else◌, nat_le, is_some, List, [], ◌∷◌, ◌++◌, map, codes, Option, Some, None, Result, Ok, Err}
 use Rattle.std.specs.Ordering.{nat_cmp}
 use Rattle.std.specs.FinMap.{FinMap, get, insert, entries, from_entries, empty}
-use Rattle.room_json.specs.declared.tree.Json.{Json}
 use Rattle.room_msg.specs.declared.messages.ClientMsg.{ClientMsg}
 use Rattle.room_msg.specs.declared.messages.ClientFrame.TheVariants.{Msgs as ClientMsgsOf}
 use Rattle.room_msg.specs.declared.messages.ServerFrame.TheVariants.{Pong as PongOf, Msgs as ServerMsgsOf}
@@ -13,22 +20,22 @@ use Rattle.room_model.specs.Edits.{EditFault}
 use Rattle.room_model.specs.Notices.{Notice}
 use Rattle.room_model.specs.Account.{Account, Batch, new_account, is_some_list}
 use Rattle.room_model.specs.Calls.{Done, Undo as Back, Redo as Forth, BatchFault, UndoFault, SayFault, lost, dialled, hello_of, edit, batch_begin, batch_end, go_back, pause, resume, clear, presence, event, flush_frames, flushed, resend_frames, resent}
-use Rattle.room_model.specs.Comes.{Took, Refusal, frame_comes}
-use Rattle.room_model.specs.Server.{Down, Pong, Message, Closed, Up, Limits, Server, Served, Link, opened, gone, serve}
+use Rattle.room_model.specs.Receive.{Received, Refusal, receive_frame}
+use Rattle.room_model.specs.Server.{Outbound, Pong, Message, Closed, Inbound, Limits, Server, Served, Link, opened, gone, serve}
 use Rattle.room_model.specs.Lines
 
 -- what is there
 
 -- a connection: the client that dialled it, if one did, its queues, and whether what the server sends still enters the
--- queue down
+-- outbound queue
 pub record Conn : Type 0 where
   pub owner : Option ℕ
-  pub up : List Up
-  pub down : List Down
+  pub inbound : List Inbound
+  pub outbound : List Outbound
   pub listens : Bool
 
 -- a client, its present connection, and the last notices that it was told
-pub record Seat : Type 0 where
+pub record Slot : Type 0 where
   pub account : Account
   pub present : Option ℕ
   pub noticed : List Notice
@@ -47,7 +54,7 @@ pub record World : Type 0 where
   pub host : Host
   pub limits : Limits
   pub fuse : Option Fuse
-  pub clients : FinMap nat_cmp Seat
+  pub clients : FinMap nat_cmp Slot
   pub conns : FinMap nat_cmp Conn
   pub opened : ℕ  -- how many connections were opened
 
@@ -75,22 +82,25 @@ saying w ls = record (quiet w) { lines = ls }
 
 -- clients
 
-abbrev pub new_seat : Seat
-new_seat = record { account = new_account room; present = None; noticed = [] }
+abbrev pub new_slot : Slot
+new_slot = record { account = new_account room; present = None; noticed = [] }
 
--- a client is there from its first line on
+-- a client that was not heard of yet is a new one; it is there once something changes it
 
-abbrev pub seated_at : World → ℕ → Option Seat → World
-seated_at w c None = record w { clients = insert w.clients c new_seat }
-seated_at w c (Some p) = w
+abbrev pub slot_in : Option Slot → Slot
+slot_in None = new_slot
+slot_in (Some p) = p
 
-abbrev pub seated : World → ℕ → World
-seated w c = seated_at w c (get w.clients c)
+abbrev pub slot : World → ℕ → Slot
+slot w c = slot_in (get w.clients c)
 
-abbrev pub with_seat : World → ℕ → Seat → World
-with_seat w c p = record w { clients = insert w.clients c p }
+abbrev pub account : World → ℕ → Account
+account w c = (slot w c).account
 
-abbrev pub with_account : Seat → Account → Seat
+abbrev pub with_slot : World → ℕ → Slot → World
+with_slot w c p = record w { clients = insert w.clients c p }
+
+abbrev pub with_account : Slot → Account → Slot
 with_account p x = record p { account = x }
 
 -- queues
@@ -105,63 +115,64 @@ is_attached w k = is_some (get (links_of w.host) k)
 abbrev pub with_conn : World → ℕ → Conn → World
 with_conn w k q = record w { conns = insert w.conns k q }
 
-abbrev pub frame_up : List ClientMsg → Up
-frame_up ms = Ok (ClientMsgsOf ms)
+abbrev pub inbound_frame : List ClientMsg → Inbound
+inbound_frame ms = Ok (ClientMsgsOf ms)
 
--- frames go up where the server has the connection, and are dropped elsewhere
+-- frames enter the inbound queue where the server has the connection, and are dropped elsewhere
 
-abbrev pub ups_on : World → ℕ → List Up → Bool → Option Conn → World
-ups_on w k us true (Some q) = with_conn w k (record q { up = q.up ++ us })
-ups_on w k us true None = w
-ups_on w k us false q = w
+abbrev pub inbounds_on : World → ℕ → List Inbound → Bool → Option Conn → World
+inbounds_on w k us true (Some q) = with_conn w k (record q { inbound = q.inbound ++ us })
+inbounds_on w k us true None = w
+inbounds_on w k us false q = w
 
-abbrev pub send_up : World → ℕ → List Up → World
-send_up w k us = ups_on w k us (is_attached w k) (get w.conns k)
+abbrev pub send_inbound : World → ℕ → List Inbound → World
+send_inbound w k us = inbounds_on w k us (is_attached w k) (get w.conns k)
 
 abbrev pub send_present : World → Option ℕ → List (List ClientMsg) → World
 send_present w None frames = w
-send_present w (Some k) frames = send_up w k (map frame_up frames)
+send_present w (Some k) frames = send_inbound w k (map inbound_frame frames)
 
--- what the server sends goes down where the connection listens; a close empties the queue up
+-- what the server sends enters the outbound queue where the connection listens; a close empties the inbound queue
 
-abbrev pub is_close : Down → Bool
+abbrev pub is_close : Outbound → Bool
 is_close Pong = false
 is_close (Message m) = false
 is_close (Closed code text) = true
 
-abbrev pub with_down : Conn → Down → Conn
-with_down q m = record {
+abbrev pub with_outbound : Conn → Outbound → Conn
+with_outbound q m = record {
   owner = q.owner;
-  up = (if is_close m then [] else q.up);
-  down = (if q.listens then q.down ++ m ∷ [] else q.down);
+  inbound = (if is_close m then [] else q.inbound);
+  outbound = (if q.listens then q.outbound ++ m ∷ [] else q.outbound);
   listens = q.listens;
 }
 
-abbrev pub give : FinMap nat_cmp Conn → ℕ → Down → Option Conn → FinMap nat_cmp Conn
+abbrev pub give : FinMap nat_cmp Conn → ℕ → Outbound → Option Conn → FinMap nat_cmp Conn
 give qs k m None = qs
-give qs k m (Some q) = insert qs k (with_down q m)
+give qs k m (Some q) = insert qs k (with_outbound q m)
 
-abbrev pub deliver : FinMap nat_cmp Conn → List (ℕ × Down) → FinMap nat_cmp Conn
+abbrev pub deliver : FinMap nat_cmp Conn → List (ℕ × Outbound) → FinMap nat_cmp Conn
 deliver qs [] = qs
 deliver qs (o ∷ os) = deliver (give qs o.0 o.1 (get qs o.0)) os
 
--- the client notices a loss: the queue down is emptied, and nothing more enters it; the queue up stays
+-- the client notices a loss: the outbound queue is emptied, and nothing more enters it; the inbound queue stays
 
 abbrev pub cut_conn : FinMap nat_cmp Conn → ℕ → Option Conn → FinMap nat_cmp Conn
 cut_conn qs k None = qs
-cut_conn qs k (Some q) = insert qs k (record q { down = []; listens = false })
+cut_conn qs k (Some q) = insert qs k (record q { outbound = []; listens = false })
 
 abbrev pub cut_present : World → Option ℕ → World
 cut_present w None = w
 cut_present w (Some k) = record w { conns = cut_conn w.conns k (get w.conns k) }
 
-abbrev pub cut_seat : World → ℕ → Seat → World
-cut_seat w c p = with_seat (cut_present w p.present) c (record { account = lost p.account; present = None; noticed = p.noticed })
+abbrev pub cut_slot : World → ℕ → Slot → World
+cut_slot w c p =
+    with_slot (cut_present w p.present) c (record { account = lost p.account; present = None; noticed = p.noticed })
 
 -- connections
 
 abbrev pub new_conn : Option ℕ → Conn
-new_conn owner = record { owner = owner; up = []; down = []; listens = true }
+new_conn owner = record { owner = owner; inbound = []; outbound = []; listens = true }
 
 -- the key of a connection is its number
 abbrev pub opened_host : Host → ℕ → Host
@@ -175,22 +186,24 @@ open_conn w owner = record w {
   opened = w.opened + 1;
 }
 
--- a dial drops the old connection first; the hello goes up on the new one
-abbrev pub dial_seat : World → ℕ → Seat → World
-dial_seat w c p =
+-- a dial drops the old connection first; the hello is sent on the new one
+abbrev pub dial_slot : World → ℕ → Slot → World
+dial_slot w c p =
     let k = w.opened + 1 in
     let x = dialled p.account in
-    send_up (with_seat (open_conn (cut_present w p.present) (Some c)) c (record { account = x; present = Some k; noticed = p.noticed }))
-    k (frame_up (hello_of x) ∷ [])
+    send_inbound (with_slot (open_conn (cut_present w p.present) (Some c)) c
+    (record { account = x; present = Some k; noticed = p.noticed }))
+    k (inbound_frame (hello_of x) ∷ [])
 
 -- the server's disk calls, and its stops
 
 abbrev pub emptied_conn : ℕ × Conn → ℕ × Conn
-emptied_conn e = (e.0, record (e.1) { up = []; down = [] })
+emptied_conn e = (e.0, record (e.1) { inbound = []; outbound = [] })
 
 -- queues and attachments are emptied; the disk is settled, which disarms the fuse
 abbrev pub stopped : World → State → World
-stopped w s = record w { host = Stopped s; fuse = None; conns = from_entries {R = nat_cmp} (map emptied_conn (entries w.conns)) }
+stopped w s =
+    record w { host = Stopped s; fuse = None; conns = from_entries {R = nat_cmp} (map emptied_conn (entries w.conns)) }
 
 -- so many calls of the disk with a fuse: it stays, with what is left, or it fires at the call of that number
 pub data Burnt : Type 0 where
@@ -199,7 +212,8 @@ pub data Burnt : Type 0 where
 
 abbrev pub burn : ℕ → Option Fuse → Burnt
 burn calls None = Intact None
-burn calls (Some f) = if nat_le f.left calls then Fires f.left f.how else Intact (Some (record { left = f.left - calls; how = f.how }))
+burn calls (Some f) =
+    if nat_le f.left calls then Fires f.left f.how else Intact (Some (record { left = f.left - calls; how = f.how }))
 
 -- a commit makes four calls, none where nothing is committed
 abbrev pub commit_calls : Option Entry → ℕ
@@ -238,7 +252,8 @@ newly_given None None owner = []
 newly_given (Some b) now owner = []
 
 abbrev pub given_by : World → Server → Served → ℕ → List (ℕ × Option ℕ)
-given_by w v out k = newly_given (actor_on (get v.links k)) (actor_on (get out.server.links k)) (owner_of (get w.conns k))
+given_by w v out k =
+    newly_given (actor_on (get v.links k)) (actor_on (get out.server.links k)) (owner_of (get w.conns k))
 
 -- nothing of the event in which a fuse fires is sent
 abbrev pub answered : World → Server → ℕ → Served → Burnt → Stepped
@@ -251,90 +266,91 @@ answered w v k out (Intact fuse) = record {
 }
 answered w v k out (Fires call how) =
     if is_kept call how
-    then record { world = stopped w (state_with v.state out.entry); lines = []; entries = entries_in out.entry; issues = []; given = [] }
+    then record {
+      world = stopped w (state_with v.state out.entry);
+      lines = [];
+      entries = entries_in out.entry;
+      issues = [];
+      given = [];
+    }
     else quiet (stopped w v.state)
 
 abbrev pub answer : World → Server → ℕ → Served → Stepped
 answer w v k out = answered w v k out (burn (commit_calls out.entry) w.fuse)
 
--- up: the server takes the next frame of a connection
+-- the server receives the next frame of a connection
 
-abbrev pub up_from : World → ℕ → Host → Conn → List Up → Stepped
-up_from w k (Running v) q (u ∷ us) = answer (with_conn w k (record q { up = us })) v k (serve v k u)
-up_from w k (Running v) q [] = quiet w
-up_from w k (Stopped s) q us = quiet w
+abbrev pub inbound_from : World → ℕ → Host → Conn → List Inbound → Stepped
+inbound_from w k (Running v) q (u ∷ us) = answer (with_conn w k (record q { inbound = us })) v k (serve v k u)
+inbound_from w k (Running v) q [] = quiet w
+inbound_from w k (Stopped s) q us = quiet w
 
-abbrev pub up_at : World → ℕ → Option Conn → Stepped
-up_at w k None = quiet w
-up_at w k (Some q) = up_from w k w.host q q.up
+abbrev pub inbound_at : World → ℕ → Option Conn → Stepped
+inbound_at w k None = quiet w
+inbound_at w k (Some q) = inbound_from w k w.host q q.inbound
 
-abbrev pub goes_up : World → ℕ → Stepped
-goes_up w k = up_at w k (get w.conns k)
+abbrev pub server_receives : World → ℕ → Stepped
+server_receives w k = inbound_at w k (get w.conns k)
 
--- down: the client, or the link, of a connection takes what comes next
+-- the client, or the link, of a connection receives what is next
 
 -- a link writes what it gets
-abbrev pub link_takes : World → ℕ → Down → Stepped
+abbrev pub link_takes : World → ℕ → Outbound → Stepped
 link_takes w k Pong = saying w (Lines.got_line k (codes "pong") ∷ [])
 link_takes w k (Message m) = saying w (Lines.got_line k (server_text m) ∷ [])
 link_takes w k (Closed code text) = saying w (Lines.closed_line k code text ∷ [])
 
-abbrev pub event_lines : ℕ → List (ℕ × Json) → List (List ℕ)
-event_lines c [] = []
-event_lines c (e ∷ es) = Lines.event_line c e ∷ event_lines c es
-
 -- a client that refuses a frame is lost, and its connection is as after a cut
-abbrev pub frame_taken : World → ℕ → ℕ → ℕ → Seat → Result Took Refusal → Stepped
+abbrev pub frame_taken : World → ℕ → ℕ → ℕ → Slot → Result Received Refusal → Stepped
 frame_taken w line c k p (Err out) = saying
-    (with_seat (cut_present w p.present) c (record { account = out.account; present = None; noticed = p.noticed }))
+    (with_slot (cut_present w p.present) c (record { account = out.account; present = None; noticed = p.noticed }))
     (Lines.refused_line line (Lines.frame_fault_words out.fault) ∷ [])
 frame_taken w line c k p (Ok out) = saying
-    (send_up (with_seat w c (record { account = out.account; present = p.present; noticed = out.notices })) k (map frame_up out.replies))
-    (event_lines c out.events)
+    (send_inbound (with_slot w c (record { account = out.account; present = p.present; noticed = out.notices })) k
+    (map inbound_frame out.replies))
+    (Lines.event_lines (Some c) out.events)
 
-abbrev pub client_takes : World → ℕ → ℕ → ℕ → Seat → Down → Stepped
-client_takes w line c k p Pong = frame_taken w line c k p (frame_comes p.account PongOf)
-client_takes w line c k p (Message m) = frame_taken w line c k p (frame_comes p.account (ServerMsgsOf (m ∷ [])))
-client_takes w line c k p (Closed code text) = saying (cut_seat w c p) (Lines.closed_line k code text ∷ [])
+abbrev pub client_takes : World → ℕ → ℕ → ℕ → Slot → Outbound → Stepped
+client_takes w line c k p Pong = frame_taken w line c k p (receive_frame p.account PongOf)
+client_takes w line c k p (Message m) = frame_taken w line c k p (receive_frame p.account (ServerMsgsOf (m ∷ [])))
+client_takes w line c k p (Closed code text) = saying (cut_slot w c p) (Lines.closed_line k code text ∷ [])
 
-abbrev pub taken_by : World → ℕ → ℕ → ℕ → Down → Option Seat → Stepped
-taken_by w line c k m None = quiet w
-taken_by w line c k m (Some p) = client_takes w line c k p m
-
-abbrev pub owner_takes : World → ℕ → ℕ → Down → Option ℕ → Stepped
+abbrev pub owner_takes : World → ℕ → ℕ → Outbound → Option ℕ → Stepped
 owner_takes w line k m None = link_takes w k m
-owner_takes w line k m (Some c) = taken_by w line c k m (get w.clients c)
+owner_takes w line k m (Some c) = client_takes w line c k (slot w c) m
 
-abbrev pub down_from : World → ℕ → ℕ → Conn → List Down → Stepped
-down_from w line k q [] = quiet w
-down_from w line k q (m ∷ ms) = owner_takes (with_conn w k (record q { down = ms })) line k m q.owner
+abbrev pub outbound_from : World → ℕ → ℕ → Conn → List Outbound → Stepped
+outbound_from w line k q [] = quiet w
+outbound_from w line k q (m ∷ ms) = owner_takes (with_conn w k (record q { outbound = ms })) line k m q.owner
 
-abbrev pub down_at : World → ℕ → ℕ → Option Conn → Stepped
-down_at w line k None = quiet w
-down_at w line k (Some q) = down_from w line k q q.down
+abbrev pub outbound_at : World → ℕ → ℕ → Option Conn → Stepped
+outbound_at w line k None = quiet w
+outbound_at w line k (Some q) = outbound_from w line k q q.outbound
 
-abbrev pub comes_down : World → ℕ → ℕ → Stepped
-comes_down w line k = down_at w line k (get w.conns k)
+abbrev pub peer_receives : World → ℕ → ℕ → Stepped
+peer_receives w line k = outbound_at w line k (get w.conns k)
 
--- drain: so many times, up for the least connection with something up, else down for the least with something down
+-- drain: so many times, the server receives from the least connection with something inbound, else the client or the
+-- link
+-- receives on the least with something outbound
 
-abbrev pub has_up : Conn → Bool
-has_up q = is_some_list q.up
+abbrev pub has_inbound : Conn → Bool
+has_inbound q = is_some_list q.inbound
 
-abbrev pub has_down : Conn → Bool
-has_down q = is_some_list q.down
+abbrev pub has_outbound : Conn → Bool
+has_outbound q = is_some_list q.outbound
 
 abbrev pub least : (Conn → Bool) → List (ℕ × Conn) → Option ℕ
 least p [] = None
 least p (e ∷ es) = if p e.1 then Some e.0 else least p es
 
 abbrev pub drain_step : World → ℕ → Option ℕ → Option ℕ → Option Stepped
-drain_step w line (Some k) down = Some (goes_up w k)
-drain_step w line None (Some k) = Some (comes_down w line k)
+drain_step w line (Some k) outbound = Some (server_receives w k)
+drain_step w line None (Some k) = Some (peer_receives w line k)
 drain_step w line None None = None
 
 abbrev pub drain_next : World → ℕ → Option Stepped
-drain_next w line = drain_step w line (least has_up (entries w.conns)) (least has_down (entries w.conns))
+drain_next w line = drain_step w line (least has_inbound (entries w.conns)) (least has_outbound (entries w.conns))
 
 abbrev pub then_stepped : Stepped → Stepped → Stepped
 then_stepped before out = record {
@@ -349,13 +365,15 @@ abbrev pub or_quiet : World → Option Stepped → Stepped
 or_quiet w None = quiet w
 or_quiet w (Some out) = out
 
--- where nothing waits, no step does anything
-abbrev pub drain_from : ℕ → ℕ → Stepped → Stepped
-drain_from zero line so_far = so_far
-drain_from (suc n) line so_far = drain_from n line (then_stepped so_far (or_quiet so_far.world (drain_next so_far.world line)))
+-- where nothing waits, nothing is done
+abbrev pub drain_once : World → ℕ → Stepped
+drain_once w line = or_quiet w (drain_next w line)
 
 unfoldable pub drain : World → ℕ → ℕ → Stepped
-drain w line n = drain_from n line (quiet w)
+drain w line zero = quiet w
+drain w line (suc n) =
+    let out = drain_once w line in
+    then_stepped out (drain out.world line n)
 
 -- calls of a client
 
@@ -364,90 +382,85 @@ issued_by c [] = []
 issued_by c (b ∷ bs) = (c, b) ∷ issued_by c bs
 
 -- a call that answered notices, or none of its own
-abbrev pub done_noticed : World → ℕ → Seat → Done → Stepped
-done_noticed w c p out = record (quiet (with_seat w c (record { account = out.account; present = p.present; noticed = out.notices }))) { issues = issued_by c out.issues }
+abbrev pub done_noticed : World → ℕ → Slot → Done → Stepped
+done_noticed w c p out =
+    record (quiet (with_slot w c (record {
+      account = out.account;
+      present = p.present;
+      noticed = out.notices;
+    }))) { issues = issued_by c out.issues }
 
-abbrev pub done_quiet : World → ℕ → Seat → Done → Stepped
-done_quiet w c p out = record (quiet (with_seat w c (with_account p out.account))) { issues = issued_by c out.issues }
+abbrev pub done_quiet : World → ℕ → Slot → Done → Stepped
+done_quiet w c p out = record (quiet (with_slot w c (with_account p out.account))) { issues = issued_by c out.issues }
 
 abbrev pub refuses : World → ℕ → List (List ℕ) → Stepped
 refuses w line ws = saying w (Lines.refused_line line ws ∷ [])
 
-abbrev pub edit_out : World → ℕ → ℕ → Seat → Result Done EditFault → Stepped
+abbrev pub edit_out : World → ℕ → ℕ → Slot → Result Done EditFault → Stepped
 edit_out w line c p (Err fault) = refuses w line (Lines.edit_fault_words fault)
 edit_out w line c p (Ok out) = done_noticed w c p out
 
-abbrev pub begin_out : World → ℕ → ℕ → Seat → Result Account BatchFault → Stepped
+abbrev pub begin_out : World → ℕ → ℕ → Slot → Result Account BatchFault → Stepped
 begin_out w line c p (Err fault) = refuses w line (Lines.batch_fault_words fault)
-begin_out w line c p (Ok x) = quiet (with_seat w c (with_account p x))
+begin_out w line c p (Ok x) = quiet (with_slot w c (with_account p x))
 
-abbrev pub end_out : World → ℕ → ℕ → Seat → Result Done BatchFault → Stepped
+abbrev pub end_out : World → ℕ → ℕ → Slot → Result Done BatchFault → Stepped
 end_out w line c p (Err fault) = refuses w line (Lines.batch_fault_words fault)
 end_out w line c p (Ok out) = done_quiet w c p out
 
-abbrev pub back_out : World → ℕ → ℕ → Seat → Result (Option Done) UndoFault → Stepped
+abbrev pub back_out : World → ℕ → ℕ → Slot → Result (Option Done) UndoFault → Stepped
 back_out w line c p (Err fault) = refuses w line (Lines.undo_fault_words fault)
 back_out w line c p (Ok None) = saying w (Lines.nothing_line line ∷ [])
 back_out w line c p (Ok (Some out)) = done_noticed w c p out
 
-abbrev pub say_out : World → ℕ → ℕ → Seat → Result Account SayFault → Stepped
+abbrev pub say_out : World → ℕ → ℕ → Slot → Result Account SayFault → Stepped
 say_out w line c p (Err fault) = refuses w line (Lines.say_fault_words fault)
-say_out w line c p (Ok x) = quiet (with_seat w c (with_account p x))
+say_out w line c p (Ok x) = quiet (with_slot w c (with_account p x))
 
-abbrev pub speaks : World → ℕ → Seat → Account → List (List ClientMsg) → Stepped
-speaks w c p x frames = quiet (send_present (with_seat w c (with_account p x)) p.present frames)
+abbrev pub speaks : World → ℕ → Slot → Account → List (List ClientMsg) → Stepped
+speaks w c p x frames = quiet (send_present (with_slot w c (with_account p x)) p.present frames)
 
--- a line of the client c, which is there
+-- what the user of the client c calls
 
-abbrev pub client_line : World → ℕ → ℕ → Seat → Lines.Line → Stepped
-client_line w line c p (Lines.Dial d) = quiet (dial_seat w c p)
-client_line w line c p (Lines.Edits d e) = edit_out w line c p (edit p.account e)
-client_line w line c p (Lines.Begin d) = begin_out w line c p (batch_begin p.account)
-client_line w line c p (Lines.End d) = end_out w line c p (batch_end p.account)
-client_line w line c p (Lines.Undo d) = back_out w line c p (go_back Back p.account)
-client_line w line c p (Lines.Redo d) = back_out w line c p (go_back Forth p.account)
-client_line w line c p (Lines.Pause d) = quiet (with_seat w c (with_account p (pause p.account)))
-client_line w line c p (Lines.Resume d) = quiet (with_seat w c (with_account p (resume p.account)))
-client_line w line c p (Lines.Clear d) = quiet (with_seat w c (with_account p (clear p.account)))
-client_line w line c p (Lines.Presence d patch in_history) = say_out w line c p (presence p.account patch in_history)
-client_line w line c p (Lines.Event d e) = say_out w line c p (event p.account e)
-client_line w line c p (Lines.Flush d) = speaks w c p (flushed p.account) (flush_frames p.account)
-client_line w line c p (Lines.Resend d) = speaks w c p (resent p.account) (resend_frames p.account)
-client_line w line c p (Lines.Cut d) = quiet (cut_seat w c p)
-client_line w line c p (Lines.Show spot) = saying w (Lines.show_line c p.account ∷ [])
-client_line w line c p (Lines.Brief spot) = saying w (Lines.brief_line c p.account ∷ [])
-client_line w line c p (Lines.Others d) = saying w (Lines.others_line c p.account ∷ [])
-client_line w line c p (Lines.HistoryOf d) = saying w (Lines.history_line c p.account ∷ [])
-client_line w line c p (Lines.NoticesOf d) = saying w (Lines.notices_line c p.noticed ∷ [])
-client_line w line c p l = quiet w
-
-abbrev pub client_at : World → ℕ → ℕ → Lines.Line → Option Seat → Stepped
-client_at w line c l None = quiet w
-client_at w line c l (Some p) = client_line w line c p l
-
-abbrev pub of_client : World → ℕ → ℕ → Lines.Line → Stepped
-of_client w line c l = let u = seated w c in client_at u line c l (get u.clients c)
+abbrev pub client_calls : World → ℕ → ℕ → Slot → Lines.Call → Stepped
+client_calls w line c p Lines.Dial = quiet (dial_slot w c p)
+client_calls w line c p (Lines.Edits e) = edit_out w line c p (edit p.account e)
+client_calls w line c p Lines.Begin = begin_out w line c p (batch_begin p.account)
+client_calls w line c p Lines.End = end_out w line c p (batch_end p.account)
+client_calls w line c p Lines.Undo = back_out w line c p (go_back Back p.account)
+client_calls w line c p Lines.Redo = back_out w line c p (go_back Forth p.account)
+client_calls w line c p Lines.Pause = quiet (with_slot w c (with_account p (pause p.account)))
+client_calls w line c p Lines.Resume = quiet (with_slot w c (with_account p (resume p.account)))
+client_calls w line c p Lines.Clear = quiet (with_slot w c (with_account p (clear p.account)))
+client_calls w line c p (Lines.Presence patch in_history) = say_out w line c p (presence p.account patch in_history)
+client_calls w line c p (Lines.Event e) = say_out w line c p (event p.account e)
+client_calls w line c p Lines.Flush = speaks w c p (flushed p.account) (flush_frames p.account)
+client_calls w line c p Lines.Resend = speaks w c p (resent p.account) (resend_frames p.account)
+client_calls w line c p Lines.Cut = quiet (cut_slot w c p)
 
 -- lines of connections and of the server
 
 -- the server notices that a connection is gone
 abbrev pub gone_conn : FinMap nat_cmp Conn → ℕ → Option Conn → FinMap nat_cmp Conn
 gone_conn qs k None = qs
-gone_conn qs k (Some q) = insert qs k (record q { up = [] })
+gone_conn qs k (Some q) = insert qs k (record q { inbound = [] })
 
 abbrev pub gone_on : World → ℕ → Host → Bool → World
 gone_on w k (Running v) true =
-    let out = gone v k in record w { host = Running out.server; conns = deliver (gone_conn w.conns k (get w.conns k)) out.outs }
+    let out = gone v k in record w {
+      host = Running out.server;
+      conns = deliver (gone_conn w.conns k (get w.conns k)) out.outs;
+    }
 gone_on w k (Running v) false = w
 gone_on w k (Stopped s) b = w
 
 abbrev pub goes : World → ℕ → World
 goes w k = gone_on w k w.host (is_attached w k)
 
--- a text goes up on a link; on a client's connection nothing happens
+-- a text is sent on a link; on a client's connection nothing happens
 
 abbrev pub raw_on : World → ℕ → List ℕ → Option ℕ → World
-raw_on w k text None = send_up w k (client_frame_in text ∷ [])
+raw_on w k text None = send_inbound w k (client_frame_in text ∷ [])
 raw_on w k text (Some c) = w
 
 abbrev pub raw_at : World → ℕ → List ℕ → Option Conn → World
@@ -461,7 +474,10 @@ stop w (Stopped s) = w
 -- a start makes two calls of the disk
 abbrev pub started : World → State → Burnt → Stepped
 started w s (Intact fuse) = saying
-    (record w { host = Running (record { state = s; room = room; limits = w.limits; access = None; links = empty }); fuse = fuse })
+    (record w {
+      host = Running (record { state = s; room = room; limits = w.limits; access = None; links = empty });
+      fuse = fuse;
+    })
     (Lines.start_line s ∷ [])
 started w s (Fires call how) = saying (stopped w s) (Lines.start_failed_line ∷ [])
 
@@ -493,40 +509,32 @@ abbrev pub server_brief : Host → List ℕ
 server_brief (Running v) = Lines.server_brief_line v.state
 server_brief (Stopped s) = Lines.server_stopped_line
 
+-- a line of a connection, and of the server
+
+abbrev pub conn_line : World → ℕ → ℕ → Lines.Traffic → Stepped
+conn_line w line k Lines.Up = server_receives w k
+conn_line w line k Lines.Down = peer_receives w line k
+conn_line w line k Lines.Gone = quiet (goes w k)
+conn_line w line k (Lines.Raw text) = quiet (raw_at w k text (get w.conns k))
+
+abbrev pub server_line : World → Lines.Service → Stepped
+server_line w Lines.Stop = quiet (stop w w.host)
+server_line w Lines.Start = start w w.host
+server_line w (Lines.Fuse calls how) = quiet (record w { fuse = Some (record { left = calls; how = how }) })
+server_line w Lines.Compact = quiet (compact w w.host)
+server_line w (Lines.Limit updates sessions) = quiet (limit w (record { updates = updates; sessions = sessions }))
+server_line w Lines.ShowServer = saying w (server_shown w.host ∷ [])
+server_line w Lines.BriefServer = saying w (server_brief w.host ∷ [])
+
 -- a line of the schedule, with its number
 abbrev pub step : World → ℕ → Lines.Line → Stepped
-step w line (Lines.Dial c) = of_client w line c (Lines.Dial c)
-step w line (Lines.Edits c e) = of_client w line c (Lines.Edits c e)
-step w line (Lines.Begin c) = of_client w line c (Lines.Begin c)
-step w line (Lines.End c) = of_client w line c (Lines.End c)
-step w line (Lines.Undo c) = of_client w line c (Lines.Undo c)
-step w line (Lines.Redo c) = of_client w line c (Lines.Redo c)
-step w line (Lines.Pause c) = of_client w line c (Lines.Pause c)
-step w line (Lines.Resume c) = of_client w line c (Lines.Resume c)
-step w line (Lines.Clear c) = of_client w line c (Lines.Clear c)
-step w line (Lines.Presence c patch in_history) = of_client w line c (Lines.Presence c patch in_history)
-step w line (Lines.Event c e) = of_client w line c (Lines.Event c e)
-step w line (Lines.Flush c) = of_client w line c (Lines.Flush c)
-step w line (Lines.Resend c) = of_client w line c (Lines.Resend c)
-step w line (Lines.Cut c) = of_client w line c (Lines.Cut c)
-step w line (Lines.Show (Lines.AClient c)) = of_client w line c (Lines.Show (Lines.AClient c))
-step w line (Lines.Show Lines.TheServer) = saying w (server_shown w.host ∷ [])
-step w line (Lines.Brief (Lines.AClient c)) = of_client w line c (Lines.Brief (Lines.AClient c))
-step w line (Lines.Brief Lines.TheServer) = saying w (server_brief w.host ∷ [])
-step w line (Lines.Others c) = of_client w line c (Lines.Others c)
-step w line (Lines.HistoryOf c) = of_client w line c (Lines.HistoryOf c)
-step w line (Lines.NoticesOf c) = of_client w line c (Lines.NoticesOf c)
-step w line (Lines.Goes_up k) = goes_up w k
-step w line (Lines.Comes_down k) = comes_down w line k
+step w line (Lines.OfClient c call) = client_calls w line c (slot w c) call
+step w line (Lines.AsksClient c question) =
+    saying w (Lines.answer_line (Some c) (account w c) (slot w c).noticed question ∷ [])
+step w line (Lines.OfConnection k traffic) = conn_line w line k traffic
+step w line (Lines.OfServer service) = server_line w service
 step w line (Lines.Drain n) = drain w line n
-step w line (Lines.Gone k) = quiet (goes w k)
-step w line Lines.Stop = quiet (stop w w.host)
-step w line Lines.Start = start w w.host
-step w line (Lines.Fuse calls how) = quiet (record w { fuse = Some (record { left = calls; how = how }) })
-step w line Lines.Compact = quiet (compact w w.host)
-step w line (Lines.Limit updates sessions) = quiet (limit w (record { updates = updates; sessions = sessions }))
 step w line Lines.Link = quiet (open_conn w None)
-step w line (Lines.Raw k text) = quiet (raw_at w k text (get w.conns k))
 
 -- the default limits
 abbrev pub first_limits : Limits

@@ -3,6 +3,7 @@ pub mod Framed
 pub mod KeyTexts
 pub mod Places
 pub mod ReadDepth
+pub mod Refusals
 pub mod Reread
 pub mod SoundClient
 pub mod SoundServer

@@ -4,18 +4,30 @@ use Rattle.std.specs.Str.{bytes_eq}
 use Rattle.room_json.specs.Fields.{first, each_in}
 use Rattle.room_json.specs.Reading.{Refusal, not_json, too_deep, bad_number, value_of_text}
 use Rattle.room_json.specs.Value.{Value, as_list}
+use Rattle.room_json.specs.declared.reading.JsonFault.{JsonFault}
+use Rattle.room_json.specs.declared.reading.JsonFault.TheVariants.{Memory, NotJson, TooDeep, BadNumber}
 use Rattle.room_msg.specs.Msg.{client_in, server_msgs_in}
 use Rattle.room_msg.specs.declared.messages.ClientFrame.{ClientFrame}
 use Rattle.room_msg.specs.declared.messages.ClientFrame.TheVariants as client
 use Rattle.room_msg.specs.declared.messages.ServerFrame.{ServerFrame}
 use Rattle.room_msg.specs.declared.messages.ServerFrame.TheVariants as server
+use Rattle.room_msg.specs.declared.reason.MsgFault.{MsgFault}
+use Rattle.room_msg.specs.declared.reason.MsgFault.TheVariants.{Memory as OutOfMemory, Bad}
 use Rattle.room_msg.specs.declared.reason.Reason.{Reason}
 use Rattle.room_msg.specs.declared.reason.Reason.TheVariants.{Size, Json, Depth, Number, List as NoList}
 
+-- why a frame is refused whose JSON is
 abbrev pub reason_in : Refusal → Reason
 reason_in not_json = Json
 reason_in (too_deep d) = Depth
 reason_in bad_number = Number
+
+-- and as a fault
+abbrev pub fault_of : JsonFault → MsgFault
+fault_of Memory = OutOfMemory
+fault_of NotJson = Bad Json
+fault_of (TooDeep d) = Bad Depth
+fault_of BadNumber = Bad Number
 
 abbrev pub refused : Result Value Refusal → Result Value Reason
 refused (Ok v) = Ok v

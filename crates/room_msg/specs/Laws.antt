@@ -1,5 +1,6 @@
 -- Which messages can be sent, and what is read of them.
-use Rattle.std.specs.Prelude.{◌≡◌, ◌≤◌, ◌≤ℤ◌, ℕ, ℤ, pos, negsuc, length, All, List, [], ◌∷◌, map, Option, Some, None, Ok, ⊤}
+use Rattle.std.specs.Prelude.{◌≡◌, ◌≤◌, ◌≤ℤ◌, ⊤, ℕ, ℤ, pos, negsuc}
+use Rattle.std.specs.Prelude.{length, All, List, [], ◌∷◌, map, Option, Some, None, Ok}
 use Rattle.room_json.specs.Fields.{each_in}
 use Rattle.room_json.specs.Profile.{IsJson}
 use Rattle.room_json.specs.Value.{Value, depth, list, values_of}
@@ -111,7 +112,9 @@ abbrev pub IsServerFrame : ServerMsg → List ℕ → Type 0
 IsServerFrame m t = depth (server_out m) ≤ 60 → server_frame_in t ≡ Ok (to_client.Msgs (m ∷ []))
 
 abbrev pub ClientFramesReadBack : Type 0
-ClientFramesReadBack = (ms : List ClientMsg) → All IsSendable ms → All IsClientInRange ms → IsJson (client_value ms) → IsClientFrame ms (client_text ms)
+ClientFramesReadBack = (ms : List ClientMsg)
+    → All IsSendable ms → All IsClientInRange ms → IsJson (client_value ms) → IsClientFrame ms (client_text ms)
 
 abbrev pub ServerFramesReadBack : Type 0
-ServerFramesReadBack = (m : ServerMsg) → IsServed m → IsServerInRange m → IsJson (server_out m) → IsServerFrame m (server_text m)
+ServerFramesReadBack = (m : ServerMsg)
+    → IsServed m → IsServerInRange m → IsJson (server_out m) → IsServerFrame m (server_text m)

@@ -5,3 +5,8 @@ pub mod Msg
 pub mod Sound
 pub mod Users
 pub mod Written
+pub use Rattle.room_json.specs.Profile
+pub use Rattle.room_json.specs.Value
+pub use Rattle.room_nodes.specs.Shallow
+pub use Rattle.room_nodes.specs.Sound as OpSound
+pub use Rattle.room_wire.specs.Laws as OpLaws

@@ -1,12 +1,14 @@
 -- Messages as they are read: the fields in their order, and the first that is missing or wrong.
-use Rattle.std.specs.Prelude.{◌≡◌, ℕ, ℤ, pos, negsuc, int_le, nat_eq, nat_le, length, List, [], ◌∷◌, codes, Option, Some, None, option_and_then, option_map, Result, Ok, Err, ⊤, Bool, false, if◌then◌else◌}
+-- A client's message is `client_in`, what the server sends at once `server_msgs_in`; `type` comes first.
+use Rattle.std.specs.Prelude.{◌≡◌, ⊤, ℕ, ℤ, pos, negsuc, int_le, nat_eq, nat_le, Bool, false, if◌then◌else◌}
+use Rattle.std.specs.Prelude.{length, List, [], ◌∷◌, codes}
+use Rattle.std.specs.Prelude.{Option, Some, None, option_and_then, option_map, Result, Ok, Err}
 use Rattle.room_json.specs.Back.{json_in}
 use Rattle.room_json.specs.Fields.{field_of, first, needed, allowed, each_in}
 use Rattle.room_json.specs.Value.{Value, members, list, values_list, as_members, as_text, as_whole, as_list, as_flag}
 use Rattle.room_nodes.specs.declared.nodes.Op.{Op}
-use Rattle.room_wire.specs.Wire.{op_in}
+use Rattle.room_wire.specs.Wire.{op_in, name_of}
 use Rattle.room_wire.specs.declared.fault.Field.{Field as OpField}
-use Rattle.room_wire.specs.declared.fault.Field.TheVariants as part
 use Rattle.room_msg.specs.Keys.{key_in}
 use Rattle.room_msg.specs.Users.{as_users}
 use Rattle.room_msg.specs.declared.codes.ClientCode.{ClientCode}
@@ -68,20 +70,9 @@ as_resume v =
 
 -- operations
 
-abbrev pub part_name : OpField → List ℕ
-part_name part.Kind = codes "type"
-part_name part.Id = codes "id"
-part_name part.OpId = codes "opId"
-part_name part.ParentId = codes "parentId"
-part_name part.ParentKey = codes "parentKey"
-part_name part.Content = codes "data"
-part_name part.Key = codes "key"
-part_name part.Intent = codes "intent"
-part_name part.DeletedId = codes "deletedId"
-
 abbrev pub reason_of : {A : Type 0} → Result A OpField → Result A Reason
 reason_of (Ok x) = Ok x
-reason_of (Err f) = Err (Field (part_name f))
+reason_of (Err f) = Err (Field (name_of f))
 
 -- a fault within an operation names the operation's field
 abbrev pub op_at : Value → Result Op Reason
@@ -219,7 +210,7 @@ server_msgs_in (members fs) = first (server_in (members fs)) (λ m. Ok (m ∷ []
 server_msgs_in (list vs) = each_in server_in (values_list vs)
 server_msgs_in _ = Err NoList
 
--- a fault that a reading gave; want of memory may come at any time
+-- a fault that a reading gave; memory may run out at any time
 abbrev pub IsFaultOf : {A : Type 0} → Result A Reason → MsgFault → Type 0
 IsFaultOf r Memory = ⊤
 IsFaultOf r (Bad reason) = r ≡ Err reason

@@ -55,7 +55,8 @@ pub record IsSoundServerMsg (m : ServerMsg) : Type 0 where
   pub in_range : IsServerInRange m
   pub content : HasSoundServerContent m
 
--- and no deeper than a frame of 60 levels makes it: a client's message stands one level down, a server's may be the frame
+-- and no deeper than a frame of 60 levels makes it: a client's message stands one level down, a server's may be the
+-- frame
 
 abbrev pub IsShallowClientMsg : ClientMsg → Type 0
 IsShallowClientMsg (client.Hello h) = ⊤
@@ -105,4 +106,5 @@ abbrev pub ServerMsgsAreSound : Type 0
 ServerMsgsAreSound = (v : Value) (ms : List ServerMsg) → server_msgs_in v ≡ Ok ms → IsJson v → AreSoundServerMsgs ms
 
 abbrev pub ServerMsgsAreShallow : Type 0
-ServerMsgsAreShallow = (v : Value) (ms : List ServerMsg) → server_msgs_in v ≡ Ok ms → depth v ≤ 60 → All IsShallowServerMsg ms
+ServerMsgsAreShallow = (v : Value) (ms : List ServerMsg)
+    → server_msgs_in v ≡ Ok ms → depth v ≤ 60 → All IsShallowServerMsg ms

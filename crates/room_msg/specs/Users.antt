@@ -1,5 +1,6 @@
 -- The users of a room state: an object from actor to object.
-use Rattle.std.specs.Prelude.{◌<◌, ℕ, suc, nat_le, codes, if◌then◌else◌, List, [], ◌∷◌, Option, Some, None, option_and_then, option_map, ⊤}
+use Rattle.std.specs.Prelude.{◌<◌, ⊤, ℕ, suc, nat_le, if◌then◌else◌}
+use Rattle.std.specs.Prelude.{List, [], ◌∷◌, codes, Option, Some, None, option_and_then, option_map}
 use Rattle.room_json.specs.Fields.{field_of}
 use Rattle.room_json.specs.Value.{Value, as_members, as_text}
 use Rattle.room_ids.specs.Ids.{number_in}

@@ -1,5 +1,6 @@
 -- Messages as JSON, and the texts of frames.
-use Rattle.std.specs.Prelude.{ℕ, ℤ, pos, Bool, true, false, ◌++◌, List, [], ◌∷◌, map, codes, decimal, Option, Some, None}
+use Rattle.std.specs.Prelude.{ℕ, ℤ, pos, Bool, true, false}
+use Rattle.std.specs.Prelude.{◌++◌, List, [], ◌∷◌, map, codes, decimal, Option, Some, None}
 use Rattle.room_json.specs.Value.{Value, flag, whole, text, list, members, values_of, fields_of, object_of, text_of}
 use Rattle.room_json.specs.View.{json_of}
 use Rattle.room_nodes.specs.declared.nodes.Op.{Op}
@@ -42,7 +43,9 @@ text_out name None = []
 text_out name (Some t) = (name, text t) ∷ []
 
 abbrev pub hello_out : Hello → List (List ℕ × Value)
-hello_out h = type_out 1 ++ ((codes "room", text h.room) ∷ []) ++ resume_out h.resume ++ text_out (codes "name") h.name ++ text_out (codes "pass") h.«pass»
+hello_out h =
+    type_out 1 ++ ((codes "room", text h.room) ∷ []) ++ resume_out h.resume
+    ++ text_out (codes "name") h.name ++ text_out (codes "pass") h.«pass»
 
 abbrev pub client_out : ClientMsg → Value
 client_out (client.Hello h) = object_of (hello_out h)
@@ -70,14 +73,20 @@ more_out true = (codes "more", flag true) ∷ []
 more_out false = []
 
 abbrev pub server_out : ServerMsg → Value
-server_out (server.Presence actor target patch) = object_of (type_out 100 ++ number_out (codes "actor") actor ++ data_out patch ++ target_out target)
+server_out (server.Presence actor target patch) =
+    object_of (type_out 100 ++ number_out (codes "actor") actor ++ data_out patch ++ target_out target)
 server_out (server.Joined actor) = object_of (type_out 101 ++ number_out (codes "actor") actor)
 server_out (server.Left actor) = object_of (type_out 102 ++ number_out (codes "actor") actor)
-server_out (server.Broadcast actor event) = object_of (type_out 103 ++ number_out (codes "actor") actor ++ (codes "event", json_of event) ∷ [])
+server_out (server.Broadcast actor event) =
+    object_of (type_out 103 ++ number_out (codes "actor") actor ++ (codes "event", json_of event) ∷ [])
 server_out (server.RoomState actor key users) =
-    object_of (type_out 104 ++ number_out (codes "actor") actor ++ (codes "key", text (key_text key)) ∷ (codes "users", object_of (map user_out users)) ∷ [])
+    object_of (
+    type_out 104 ++ number_out (codes "actor") actor
+    ++ (codes "key", text (key_text key)) ∷ (codes "users", object_of (map user_out users)) ∷ [])
 server_out (server.State seq last items more) =
-    object_of (type_out 200 ++ number_out (codes "seq") seq ++ number_out (codes "last") last ++ ((codes "items", list (values_of items)) ∷ []) ++ more_out more)
+    object_of (
+    type_out 200 ++ number_out (codes "seq") seq ++ number_out (codes "last") last
+    ++ ((codes "items", list (values_of items)) ∷ []) ++ more_out more)
 server_out (server.Update seq os) = object_of (type_out 201 ++ number_out (codes "seq") seq ++ ops_out os)
 
 -- a server's frame is one message

@@ -1,3 +1,4 @@
+//! What the number of a message says.
 /// What a client's message is, by its `type`.
 #[derive(Clone, Copy, Debug, PartialEq, Eq)]
 pub(crate) enum ClientCode {

@@ -1,3 +1,4 @@
+//! Copies of messages.
 ghost use Rattle.std.specs.Prelude.{◌≡◌, IfOk};
 
 use crate::messages::{ClientFrame, ClientMsg, Hello, ServerFrame, ServerMsg};

@@ -1,26 +1,29 @@
-ghost use Rattle.std.specs.Prelude.{◌≡◌, ◌⊎◌, option_and_then, IfOk, IfErr, ok_or, Some, Ok};
+//! The fields of a message.
+ghost use Rattle.std.specs.Prelude.{◌≡◌, option_and_then, IfOk, IfErr, ok_or, Some, Ok};
 ghost use Rattle.std.specs.Option.{option_copied};
 ghost use Rattle.room_json.specs.Fields.{field_of, needed};
 ghost use Rattle.room_json.specs.Value.{as_text, as_members, as_list, as_flag};
 ghost use Rattle.room_json.specs.View.{json_of};
-ghost use Rattle.room_msg.specs.Msg.{as_target, as_count, as_actor, as_maker, as_key, as_name, as_resume, as_client_code, as_server_code, at, maybe_at, IsFaultOf};
+ghost use Rattle.room_msg.specs.Msg.{as_target, as_count, as_actor, as_maker, as_key, as_name, as_resume};
+ghost use Rattle.room_msg.specs.Msg.{as_client_code, as_server_code, at, maybe_at, IsFaultOf};
 ghost use Rattle.room_msg.specs.declared.reason.Reason.TheVariants.{Field as FieldReason, Kind as KindReason};
 
 use crate::codes::{ClientCode, ServerCode};
 use crate::keys::read_key;
 use crate::messages::Resume;
 use crate::reason::{MsgFault, Reason};
-use room_json::{Copied, Items, Json, Members, Text, field};
+use room_ids::MAX_ACTOR;
+use room_json::{Copied, Items, Json, MAX_WHOLE, Members, NoMemory, Text, field};
 use std::alloc::Global;
 
+/// A client's name has at most this many bytes.
+const MAX_NAME: u64 = 64;
+
 /// The fault that a field is.
-pub(crate) fn wrong(alloc: Global, name: &str) -> MsgFault
-    ensures { result ≡ MsgFault.Memory ⊎ result ≡ MsgFault.Bad (FieldReason name.now) }
+pub(crate) fn wrong(alloc: Global, name: &str) -> Result<MsgFault, NoMemory>
+    ensures { IfOk result (λ fault. fault ≡ MsgFault.Bad (FieldReason name.now)) }
 {
-    match Text::from_str(alloc, name) {
-        Ok(name) => MsgFault::Bad(Reason::Field(name)),
-        Err(_) => MsgFault::Memory,
-    }
+    Ok(MsgFault::Bad(Reason::Field(Text::from_str(alloc, name)?)))
 }
 
 /// What was found, or the fault of the field.
@@ -30,20 +33,7 @@ fn found<T: Drop>(alloc: Global, found: Option<T>, name: &str) -> Result<T, MsgF
 {
     match found {
         Some(found) => Ok(found),
-        None => match Text::from_str(alloc, name) {
-            Ok(name) => Err(MsgFault::Bad(Reason::Field(name))),
-            Err(_) => Err(MsgFault::Memory),
-        },
-    }
-}
-
-fn copied(alloc: Global, text: &Text) -> Result<Text, MsgFault>
-    ensures ok { IfOk result (λ t. t ≡ text.now) }
-    ensures err { IfErr result (λ e. e ≡ MsgFault.Memory) }
-{
-    match text.copy(alloc) {
-        Ok(text) => Ok(text),
-        Err(_) => Err(MsgFault::Memory),
+        None => Err(wrong(alloc, name)?),
     }
 }
 
@@ -51,7 +41,7 @@ fn count(v: &Json) -> Option<u64>
     ensures { result ≡ as_count (json_of v.now) }
 {
     let count = u64::try_from(v.as_int()?).ok()?;
-    if count <= 9007199254740991 {
+    if count <= MAX_WHOLE {
         Some(count)
     } else {
         None
@@ -75,7 +65,7 @@ fn target(v: &Json) -> Option<i64>
     ensures { result ≡ as_target (json_of v.now) }
 {
     let target = v.as_int()?;
-    if target >= -1 && target <= 4294967295 {
+    if target >= -1 && target <= i64::from(MAX_ACTOR) {
         Some(target)
     } else {
         None
@@ -92,7 +82,11 @@ fn short_text(v: &Json) -> Option<&Text>
     ensures { option_copied result ≡ as_name (json_of v.now) }
 {
     let text = v.as_text()?;
-    if text.len() <= 64 { Some(text) } else { None }
+    if text.len() <= MAX_NAME {
+        Some(text)
+    } else {
+        None
+    }
 }
 
 fn resume(v: &Json) -> Option<Resume>
@@ -121,10 +115,7 @@ pub(crate) fn client_code_at(v: &Json, name: &str) -> Result<ClientCode, MsgFaul
     ensures err { IfErr result (IsFaultOf (needed as_client_code KindReason (field_of name.now (json_of v.now)))) }
 {
     match field(v, name) {
-        Some(found) => match client_code(found) {
-            Some(code) => Ok(code),
-            None => Err(MsgFault::Bad(Reason::Kind)),
-        },
+        Some(found) => client_code(found).ok_or(MsgFault::Bad(Reason::Kind)),
         None => Err(MsgFault::Bad(Reason::Kind)),
     }
 }
@@ -149,10 +140,7 @@ pub(crate) fn server_code_at(v: &Json, name: &str) -> Result<ServerCode, MsgFaul
     ensures err { IfErr result (IsFaultOf (needed as_server_code KindReason (field_of name.now (json_of v.now)))) }
 {
     match field(v, name) {
-        Some(found) => match server_code(found) {
-            Some(code) => Ok(code),
-            None => Err(MsgFault::Bad(Reason::Kind)),
-        },
+        Some(found) => server_code(found).ok_or(MsgFault::Bad(Reason::Kind)),
         None => Err(MsgFault::Bad(Reason::Kind)),
     }
 }
@@ -215,13 +203,10 @@ pub(crate) fn members_at(alloc: Global, v: &Json, name: &str) -> Result<Members,
 {
     match field(v, name) {
         Some(found) => match found.as_object() {
-            Some(members) => match members.copy(alloc) {
-                Ok(members) => Ok(members),
-                Err(_) => Err(MsgFault::Memory),
-            },
-            None => Err(wrong(alloc, name)),
+            Some(members) => Ok(members.copy(alloc)?),
+            None => Err(wrong(alloc, name)?),
         },
-        None => Err(wrong(alloc, name)),
+        None => Err(wrong(alloc, name)?),
     }
 }
 
@@ -230,11 +215,8 @@ pub(crate) fn json_at(alloc: Global, v: &Json, name: &str) -> Result<Json, MsgFa
     ensures err { IfErr result (IsFaultOf (at Some name.now (json_of v.now))) }
 {
     match field(v, name) {
-        Some(found) => match found.copy(alloc) {
-            Ok(json) => Ok(json),
-            Err(_) => Err(MsgFault::Memory),
-        },
-        None => Err(wrong(alloc, name)),
+        Some(found) => Ok(found.copy(alloc)?),
+        None => Err(wrong(alloc, name)?),
     }
 }
 
@@ -245,9 +227,9 @@ pub(crate) fn list_at<'a>(alloc: Global, v: &'a Json, name: &str) -> Result<&'a 
     match field(v, name) {
         Some(found) => match found.as_list() {
             Some(items) => Ok(items),
-            None => Err(wrong(alloc, name)),
+            None => Err(wrong(alloc, name)?),
         },
-        None => Err(wrong(alloc, name)),
+        None => Err(wrong(alloc, name)?),
     }
 }
 
@@ -257,10 +239,10 @@ pub(crate) fn text_at(alloc: Global, v: &Json, name: &str) -> Result<Text, MsgFa
 {
     match field(v, name) {
         Some(found) => match found.as_text() {
-            Some(text) => copied(alloc, text),
-            None => Err(wrong(alloc, name)),
+            Some(text) => Ok(text.copy(alloc)?),
+            None => Err(wrong(alloc, name)?),
         },
-        None => Err(wrong(alloc, name)),
+        None => Err(wrong(alloc, name)?),
     }
 }
 
@@ -270,8 +252,8 @@ pub(crate) fn maybe_text_at(alloc: Global, v: &Json, name: &str) -> Result<Optio
 {
     match field(v, name) {
         Some(found) => match found.as_text() {
-            Some(text) => Ok(Some(copied(alloc, text)?)),
-            None => Err(wrong(alloc, name)),
+            Some(text) => Ok(Some(text.copy(alloc)?)),
+            None => Err(wrong(alloc, name)?),
         },
         None => Ok(None),
     }
@@ -283,8 +265,8 @@ pub(crate) fn name_at(alloc: Global, v: &Json, name: &str) -> Result<Option<Text
 {
     match field(v, name) {
         Some(found) => match short_text(found) {
-            Some(text) => Ok(Some(copied(alloc, text)?)),
-            None => Err(wrong(alloc, name)),
+            Some(text) => Ok(Some(text.copy(alloc)?)),
+            None => Err(wrong(alloc, name)?),
         },
         None => Ok(None),
     }
@@ -297,7 +279,7 @@ pub(crate) fn target_at(alloc: Global, v: &Json, name: &str) -> Result<Option<i6
     match field(v, name) {
         Some(value) => match target(value) {
             Some(target) => Ok(Some(target)),
-            None => Err(wrong(alloc, name)),
+            None => Err(wrong(alloc, name)?),
         },
         None => Ok(None),
     }
@@ -310,7 +292,7 @@ pub(crate) fn resume_at(alloc: Global, v: &Json, name: &str) -> Result<Option<Re
     match field(v, name) {
         Some(value) => match resume(value) {
             Some(resume) => Ok(Some(resume)),
-            None => Err(wrong(alloc, name)),
+            None => Err(wrong(alloc, name)?),
         },
         None => Ok(None),
     }
@@ -323,7 +305,7 @@ pub(crate) fn flag_at(alloc: Global, v: &Json, name: &str) -> Result<Option<bool
     match field(v, name) {
         Some(value) => match value.as_flag() {
             Some(flag) => Ok(Some(flag)),
-            None => Err(wrong(alloc, name)),
+            None => Err(wrong(alloc, name)?),
         },
         None => Ok(None),
     }

@@ -1,3 +1,4 @@
+//! The texts of frames as they are read.
 ghost use Rattle.std.specs.Prelude.{◌≡◌, ◌≤◌, IfOk, IfErr, Ok};
 ghost use Rattle.room_json.specs.Value.{depth};
 ghost use Rattle.room_json.specs.View.{json_of};
@@ -9,21 +10,20 @@ use crate::messages::{ClientFrame, ServerFrame};
 use crate::reading::read_msgs;
 use crate::reason::{MsgFault, Reason};
 use crate::receiving::read_server_msgs;
-use room_json::{Json, JsonFault, Sound, Text, read};
+use room_json::{Json, Sound, Text, read};
 use std::alloc::Global;
 
+/// A client's frame has at most this many bytes.
+pub const MAX_FRAME: u64 = 1_048_576;
+
+#[tactic(auto, using(crate::proofs::Refusals::refused_as))]
 fn read_text(alloc: Global, text: &Text) -> Result<Json, MsgFault>
     ensures ok { IfOk result (λ v. frame_value_in text.now ≡ Ok (json_of v)) }
     ensures shallow { IfOk result (λ v. depth (json_of v) ≤ 60) }
     ensures err { IfErr result (IsFaultOf (frame_value_in text.now)) }
 {
-    match read(alloc, text.as_bytes()) {
-        Ok(json) => Ok(json),
-        Err(JsonFault::Memory) => Err(MsgFault::Memory),
-        Err(JsonFault::NotJson) => Err(MsgFault::Bad(Reason::Json)),
-        Err(JsonFault::TooDeep(_)) => Err(MsgFault::Bad(Reason::Depth)),
-        Err(JsonFault::BadNumber) => Err(MsgFault::Bad(Reason::Number)),
-    }
+    let json = read(alloc, text.as_bytes())?;
+    Ok(json)
 }
 
 fn read_list(alloc: Global, v: &Json) -> Result<ClientFrame, MsgFault>
@@ -36,7 +36,10 @@ fn read_list(alloc: Global, v: &Json) -> Result<ClientFrame, MsgFault>
     }
 }
 
-/// What a client's frame holds, or the first reason why it is refused.
+/// What a client's frame holds.
+///
+/// `Bad` has the first reason why the frame is refused, `Memory` says that memory ran out. Reads the text once, and
+/// copies what the messages keep.
 #[tactic(auto, using(crate::proofs::SoundClient::client_sound, crate::proofs::SoundClient::client_shallow))]
 pub fn read_client(alloc: Global, text: &Text) -> Result<ClientFrame, MsgFault>
     ensures ok { IfOk result (λ f. client_frame_in text.now ≡ Ok f) }
@@ -44,7 +47,7 @@ pub fn read_client(alloc: Global, text: &Text) -> Result<ClientFrame, MsgFault>
     ensures shallow { IfOk result IsShallowClientFrame }
     ensures err { IfErr result (IsFaultOf (client_frame_in text.now)) }
 {
-    if text.len() > 1048576 {
+    if text.len() > MAX_FRAME {
         return Err(MsgFault::Bad(Reason::Size));
     }
     if text.as_str() == "ping" {
@@ -56,7 +59,10 @@ pub fn read_client(alloc: Global, text: &Text) -> Result<ClientFrame, MsgFault>
     Ok(frame)
 }
 
-/// What a server's frame holds, or the first reason why it is refused.
+/// What a server's frame holds, of any length.
+///
+/// `Bad` has the first reason why the frame is refused, `Memory` says that memory ran out. Reads the text once, and
+/// copies what the messages keep.
 #[tactic(auto, using(crate::proofs::SoundServer::server_sound))]
 pub fn read_server(alloc: Global, text: &Text) -> Result<ServerFrame, MsgFault>
     ensures ok { IfOk result (λ f. server_frame_in text.now ≡ Ok f) }

@@ -1,3 +1,4 @@
+//! The key of a session as a text.
 ghost use Rattle.std.specs.Prelude.{◌≡◌, ◌<◌, ◌++◌, [], ◌∷◌, OnOk, IfOk, length, true};
 ghost use Rattle.std.specs.Str.Parse.{digits_value};
 ghost use Rattle.room_msg.specs.Keys.{are_hex_digits, is_hex_digit, key_in, key_text, hex_digit, hex_digits};

@@ -1,5 +1,8 @@
-ghost use Rattle.room_msg.specs.Laws.{ClientMsgsReadBack, ServerMsgsReadBack, ClientFramesReadBack, ServerFramesReadBack};
-ghost use Rattle.room_msg.specs.Sound.{ClientMsgsAreSound, ClientMsgsAreShallow, ServerMsgsAreSound, ServerMsgsAreShallow};
+//! What follows from the definitions alone.
+ghost use Rattle.room_msg.specs.Laws.{ClientMsgsReadBack, ServerMsgsReadBack};
+ghost use Rattle.room_msg.specs.Laws.{ClientFramesReadBack, ServerFramesReadBack};
+ghost use Rattle.room_msg.specs.Sound.{ClientMsgsAreSound, ClientMsgsAreShallow};
+ghost use Rattle.room_msg.specs.Sound.{ServerMsgsAreSound, ServerMsgsAreShallow};
 
 /// What is read of a written message or frame of a client is that message or frame.
 #[tactic(auto, using(crate::proofs::Framed::client_msgs, crate::proofs::Framed::client_frames))]

@@ -18,7 +18,7 @@ mod serving;
 mod tests;
 mod users;
 
-pub use frames::{read_client, read_server};
+pub use frames::{MAX_FRAME, read_client, read_server};
 pub use laws::{
     client_frames_are_sound, client_frames_read_back, server_frames_are_sound,
     server_frames_read_back,

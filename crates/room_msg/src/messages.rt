@@ -1,8 +1,9 @@
+//! Messages and frames.
 use crate::users::Users;
 use room_json::{Items, Json, Members, Seq, Text};
 use room_nodes::Ops;
 
-/// A session that goes on: its actor, from 1, and its key.
+/// A session that is resumed: its actor, from 1, and its key.
 #[derive(Clone, Copy, Debug, PartialEq, Eq)]
 pub struct Resume {
     pub actor: u32,
@@ -14,7 +15,7 @@ pub struct Resume {
 pub struct Hello {
     pub room: Text,
     pub resume: Option<Resume>,
-    /// At most 64 bytes. Ignored where a session goes on.
+    /// At most 64 bytes. Ignored where a session is resumed.
     pub name: Option<Text>,
     /// A word that access is given by.
     pub pass: Option<Text>,
@@ -23,7 +24,7 @@ pub struct Hello {
 /// A message of a client.
 #[derive(Drop)]
 pub enum ClientMsg {
-    /// Begins a session, or goes on with one.
+    /// Begins a session, or resumes one.
     Hello(Hello),
     /// A patch to all others without a target, a full presence to all others at -1, and else to one actor.
     Presence { target: Option<i64>, patch: Members },
@@ -44,9 +45,9 @@ pub enum ServerMsg {
         target: Option<i64>,
         patch: Members,
     },
-    /// An actor has come.
+    /// An actor has joined.
     Joined(u32),
-    /// An actor has gone.
+    /// An actor has left.
     Left(u32),
     /// An event of an actor.
     Broadcast {

@@ -1,7 +1,9 @@
+//! The messages of a client as they are read.
 ghost use Rattle.std.specs.Prelude.{◌≡◌, map, IfOk, IfErr, Ok};
 ghost use Rattle.room_json.specs.Fields.{each_in};
 ghost use Rattle.room_json.specs.View.{json_of};
-ghost use Rattle.room_msg.specs.Msg.{op_at, ops_at, hello_in, presence_in, broadcast_in, update_in, client_in, IsFaultOf, part_name};
+ghost use Rattle.room_msg.specs.Msg.{op_at, ops_at, hello_in, presence_in, broadcast_in, update_in, client_in};
+ghost use Rattle.room_msg.specs.Msg.{IsFaultOf};
 
 use crate::codes::ClientCode;
 use crate::fields::{
@@ -12,24 +14,8 @@ use crate::messages::{ClientMsg, ClientMsgs, Hello};
 use crate::reason::MsgFault;
 use room_json::Json;
 use room_nodes::{Op, Ops};
-use room_wire::{Field, WireFault};
+use room_wire::WireFault;
 use std::alloc::Global;
-
-fn name_of(part: Field) -> &'static str
-    ensures { result.now ≡ part_name part }
-{
-    match part {
-        Field::Kind => "type",
-        Field::Id => "id",
-        Field::OpId => "opId",
-        Field::ParentId => "parentId",
-        Field::ParentKey => "parentKey",
-        Field::Content => "data",
-        Field::Key => "key",
-        Field::Intent => "intent",
-        Field::DeletedId => "deletedId",
-    }
-}
 
 fn read_op(alloc: Global, v: &Json) -> Result<Op, MsgFault>
     ensures ok { IfOk result (λ op. op_at (json_of v.now) ≡ Ok op) }
@@ -38,7 +24,7 @@ fn read_op(alloc: Global, v: &Json) -> Result<Op, MsgFault>
     match room_wire::read_op(alloc, v) {
         Ok(op) => Ok(op),
         Err(WireFault::Memory) => Err(MsgFault::Memory),
-        Err(WireFault::BadOp(part)) => Err(wrong(alloc, name_of(part))),
+        Err(WireFault::BadOp(part)) => Err(wrong(alloc, part.name())?),
     }
 }
 
@@ -49,9 +35,7 @@ fn read_ops(alloc: Global, values: &[Json]) -> Result<Ops, MsgFault>
     let mut ops = Ops::new(alloc);
     for value in values {
         let op = read_op(alloc, value)?;
-        if ops.push(op).is_err() {
-            return Err(MsgFault::Memory);
-        }
+        ops.push(op)?;
     }
     Ok(ops)
 }
@@ -126,9 +110,7 @@ pub(crate) fn read_msgs(alloc: Global, values: &[Json]) -> Result<ClientMsgs, Ms
     let mut msgs = ClientMsgs::new(alloc);
     for value in values {
         let msg = read_msg(alloc, value)?;
-        if msgs.push(msg).is_err() {
-            return Err(MsgFault::Memory);
-        }
+        msgs.push(msg)?;
     }
     Ok(msgs)
 }

@@ -1,7 +1,9 @@
+//! The messages of the server as they are read.
 ghost use Rattle.std.specs.Prelude.{◌≡◌, map, IfOk, IfErr, Ok, [], ◌∷◌};
 ghost use Rattle.room_json.specs.Fields.{each_in};
 ghost use Rattle.room_json.specs.View.{json_of};
-ghost use Rattle.room_msg.specs.Msg.{seen_in, joined_in, left_in, heard_in, room_in, state_in, updated_in, server_in, server_msgs_in, IsFaultOf};
+ghost use Rattle.room_msg.specs.Msg.{seen_in, joined_in, left_in, heard_in, room_in, state_in, updated_in, server_in};
+ghost use Rattle.room_msg.specs.Msg.{server_msgs_in, IsFaultOf};
 
 use crate::codes::ServerCode;
 use crate::fields::{
@@ -12,7 +14,7 @@ use crate::messages::{ServerMsg, ServerMsgs};
 use crate::reading::read_ops_at;
 use crate::reason::{MsgFault, Reason};
 use crate::roster::users_at;
-use room_json::Json;
+use room_json::{Copied, Json, NoMemory};
 use std::alloc::Global;
 
 fn read_seen(alloc: Global, v: &Json) -> Result<ServerMsg, MsgFault>
@@ -71,15 +73,12 @@ fn read_state(alloc: Global, v: &Json) -> Result<ServerMsg, MsgFault>
     let last = count_at(alloc, v, "last")?;
     let items = list_at(alloc, v, "items")?;
     let more = flag_at(alloc, v, "more")?.unwrap_or(false);
-    match items.copy(alloc) {
-        Ok(items) => Ok(ServerMsg::State {
-            seq,
-            last,
-            items,
-            more,
-        }),
-        Err(_) => Err(MsgFault::Memory),
-    }
+    Ok(ServerMsg::State {
+        seq,
+        last,
+        items: items.copy(alloc)?,
+        more,
+    })
 }
 
 fn read_updated(alloc: Global, v: &Json) -> Result<ServerMsg, MsgFault>
@@ -113,22 +112,17 @@ fn read_list(alloc: Global, values: &[Json]) -> Result<ServerMsgs, MsgFault>
     let mut msgs = ServerMsgs::new(alloc);
     for value in values {
         let msg = read_msg(alloc, value)?;
-        if msgs.push(msg).is_err() {
-            return Err(MsgFault::Memory);
-        }
+        msgs.push(msg)?;
     }
     Ok(msgs)
 }
 
-fn one(alloc: Global, msg: ServerMsg) -> Result<ServerMsgs, MsgFault>
-    ensures ok { IfOk result (λ ms. ms ≡ msg ∷ []) }
-    ensures err { IfErr result (λ e. e ≡ MsgFault.Memory) }
+fn one(alloc: Global, msg: ServerMsg) -> Result<ServerMsgs, NoMemory>
+    ensures { IfOk result (λ ms. ms ≡ msg ∷ []) }
 {
     let mut msgs = ServerMsgs::new(alloc);
-    match msgs.push(msg) {
-        Ok(()) => Ok(msgs),
-        Err(_) => Err(MsgFault::Memory),
-    }
+    msgs.push(msg)?;
+    Ok(msgs)
 }
 
 #[tactic(auto, using(room_json::proofs::Values::list_laws))]
@@ -137,7 +131,7 @@ pub(crate) fn read_server_msgs(alloc: Global, v: &Json) -> Result<ServerMsgs, Ms
     ensures err { IfErr result (IsFaultOf (server_msgs_in (json_of v.now))) }
 {
     match v {
-        Json::Object(_) => one(alloc, read_msg(alloc, v)?),
+        Json::Object(_) => Ok(one(alloc, read_msg(alloc, v)?)?),
         Json::List(items) => read_list(alloc, items.as_slice()),
         _ => Err(MsgFault::Bad(Reason::List)),
     }

@@ -1,3 +1,4 @@
+//! The users of a room state as they are read.
 ghost use Rattle.std.specs.Prelude.{◌≡◌, ◌≤◌, [], IfOk, IfErr, OnOk, Ok, length};
 ghost use Rattle.room_ids.specs.Ids.{number_in};
 ghost use Rattle.room_json.specs.View.{json_of, members_view};
@@ -7,7 +8,7 @@ ghost use Rattle.room_msg.specs.Users.{users_into, user_in, insert_user, place_o
 use crate::fields::wrong;
 use crate::reason::MsgFault;
 use crate::users::Users;
-use room_ids::read_number;
+use room_ids::{MAX_ACTOR, read_number};
 use room_json::{Copied, Json, NoMemory, Text, field};
 use std::alloc::Global;
 use std::collections::BTreeMap;
@@ -38,7 +39,7 @@ fn put_user(users: &mut Users, actor: u32, name: Text) -> Result<(), NoMemory>
 fn read_actor(name: &Text) -> Option<u32>
     ensures { result ≡ number_in 4294967295 name.now }
 {
-    u32::try_from(read_number(name.as_bytes(), 4294967295)?).ok()
+    u32::try_from(read_number(name.as_bytes(), u64::from(MAX_ACTOR))?).ok()
 }
 
 /// A text `name`, and else the empty name.
@@ -95,11 +96,10 @@ pub(crate) fn users_at(alloc: Global, v: &Json, name: &str) -> Result<Users, Msg
     ensures err { IfErr result (IsFaultOf (at as_users name.now (json_of v.now))) }
 {
     match field(v, name) {
-        Some(value) => match read_users(alloc, value) {
-            Ok(Some(users)) => Ok(users),
-            Ok(None) => Err(wrong(alloc, name)),
-            Err(NoMemory) => Err(MsgFault::Memory),
+        Some(value) => match read_users(alloc, value)? {
+            Some(users) => Ok(users),
+            None => Err(wrong(alloc, name)?),
         },
-        None => Err(wrong(alloc, name)),
+        None => Err(wrong(alloc, name)?),
     }
 }

@@ -1,9 +1,13 @@
-ghost use Rattle.std.specs.Prelude.{◌≡◌, ◌≤◌, [], IfOk, OnOk, All, map};
+//! A client's frame as it is written.
+ghost use Rattle.std.specs.Prelude.{◌≡◌, ◌≤◌, [], IfOk, OnOk, All, map, Ok};
+ghost use Rattle.room_json.specs.Fields.{each_in};
 ghost use Rattle.room_json.specs.Value.{merged};
 ghost use Rattle.room_json.specs.View.{json_of};
 ghost use Rattle.room_wire.specs.Written.{op_out};
 ghost use Rattle.room_msg.specs.Laws.{IsSendable, IsTarget, IsResume, AreOpsKnown, IsClientAgain, IsClientFrame};
-ghost use Rattle.room_msg.specs.Written.{type_out, number_out, target_out, data_out, ops_out, resume_out, resume_value, text_out, client_out, client_text};
+ghost use Rattle.room_msg.specs.Msg.{client_in};
+ghost use Rattle.room_msg.specs.Written.{type_out, number_out, target_out, data_out, ops_out, resume_out, resume_value};
+ghost use Rattle.room_msg.specs.Written.{text_out, client_out, client_text};
 
 use crate::keys::write_key;
 use crate::messages::{ClientMsg, ClientMsgs, Hello, Resume};
@@ -196,10 +200,6 @@ fn write_msg(alloc: Global, msg: &ClientMsg) -> Result<Json, NoMemory>
     }
 }
 
-ghost use Rattle.std.specs.Prelude.{Ok};
-ghost use Rattle.room_json.specs.Fields.{each_in};
-ghost use Rattle.room_msg.specs.Msg.{client_in};
-
 #[tactic(auto, using(crate::proofs::Reread::msgs_more))]
 fn write_msgs(alloc: Global, msgs: &[ClientMsg]) -> Result<Items, NoMemory>
     requires { All IsSendable msgs.now }
@@ -215,7 +215,8 @@ fn write_msgs(alloc: Global, msgs: &[ClientMsg]) -> Result<Items, NoMemory>
 
 /// The text of a client's frame. Within the limits of frames it is read again as these messages.
 ///
-/// Asks for a target from -1 to 4294967295, a resumed actor from 1 on, and a name of at most 64 bytes.
+/// Asks for a target from -1 to 4294967295, a resumed actor from 1 on, and a name of at most 64 bytes. Copies the
+/// messages' texts and data. Fails only where memory runs out.
 pub fn write_client(alloc: Global, msgs: &ClientMsgs) -> Result<Text, NoMemory>
     requires { All IsSendable msgs.now }
     ensures text { IfOk result (λ t. t ≡ client_text msgs.now) }

@@ -1,4 +1,5 @@
-ghost use Rattle.std.specs.Prelude.{◌≡◌, [], IfOk, OnOk, map};
+//! A server's frame as it is written.
+ghost use Rattle.std.specs.Prelude.{◌≡◌, [], ◌∷◌, IfOk, OnOk, map, codes};
 ghost use Rattle.room_json.specs.Value.{merged};
 ghost use Rattle.room_json.specs.View.{json_of};
 ghost use Rattle.room_msg.specs.Laws.{IsServed, IsTarget, AreActors, IsServerAgain, IsServerFrame};
@@ -21,8 +22,6 @@ fn start_of(alloc: Global, code: u32, actor: u32) -> Result<Members, NoMemory>
     put_number(alloc, &mut members, "actor", u64::from(actor))?;
     Ok(members)
 }
-
-ghost use Rattle.std.specs.Prelude.{codes};
 
 #[tactic(auto, using(crate::proofs::Reread::seen_again))]
 fn write_seen(
@@ -89,8 +88,6 @@ fn put_user(alloc: Global, members: &mut Members, actor: u32, name: &Text) -> Re
     drop(members.set(key, value)?);
     Ok(())
 }
-
-ghost use Rattle.std.specs.Prelude.{◌∷◌};
 
 fn write_users(alloc: Global, users: &[(u32, Text)]) -> Result<Members, NoMemory>
     ensures value { IfOk result (λ m. m ≡ merged [] (map user_out users.now)) }
@@ -191,7 +188,7 @@ fn write_msg(alloc: Global, msg: &ServerMsg) -> Result<Json, NoMemory>
 /// The text of a server's frame. Where it is not too deep it is read again as this message.
 ///
 /// Asks for a target from -1 to 4294967295, an own actor from 1 on, users in rising order of actor, and `seq` and
-/// `last` up to 2^53-1.
+/// `last` up to 2^53-1. Copies the message's texts and data. Fails only where memory runs out.
 pub fn write_server(alloc: Global, msg: &ServerMsg) -> Result<Text, NoMemory>
     requires { IsServed msg.now }
     ensures text { IfOk result (λ t. t ≡ server_text msg.now) }

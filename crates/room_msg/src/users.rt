@@ -1,3 +1,4 @@
+//! The users of a room.
 ghost use Rattle.std.specs.Prelude.{◌≡◌, ◌≤◌, ◌++◌, [], ◌∷◌, length, OnOk, OnErr};
 ghost use Rattle.std.specs.List.{insert};
 
@@ -50,10 +51,8 @@ impl Users {
         ensures ok { OnOk result (self.new ≡ self.old ++ (actor, name) ∷ []) }
         ensures err { OnErr result (self.new ≡ self.old) }
     {
-        match self.pairs.push((actor, name)) {
-            Ok(()) => Ok(()),
-            Err(_) => Err(NoMemory),
-        }
+        self.pairs.push((actor, name))?;
+        Ok(())
     }
 
     /// Puts an actor in at an index. A refused call changes nothing.
@@ -62,9 +61,7 @@ impl Users {
         ensures ok { OnOk result (self.new ≡ insert self.old at (actor, name)) }
         ensures err { OnErr result (self.new ≡ self.old) }
     {
-        match self.pairs.insert(at, (actor, name)) {
-            Ok(()) => Ok(()),
-            Err(_) => Err(NoMemory),
-        }
+        self.pairs.insert(at, (actor, name))?;
+        Ok(())
     }
 }

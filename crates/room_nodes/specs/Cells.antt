@@ -1,5 +1,6 @@
 -- The cells of a tree that operations read and write, and when two lists of operations are apart.
-use Rattle.std.specs.Prelude.{◌≡◌, ℕ, Bool, true, false, ◌||◌, ◌&&◌, not, if◌then◌else◌, List, [], ◌∷◌, ◌++◌, Option, Some, None, option_map}
+use Rattle.std.specs.Prelude.{◌≡◌, ℕ, List, [], ◌∷◌, ◌++◌, Option, Some, None, option_map}
+use Rattle.std.specs.Prelude.{Bool, true, false, ◌||◌, ◌&&◌, not, if◌then◌else◌}
 use Rattle.std.specs.Ordering.{nat_cmp, eq_by_cmp}
 use Rattle.std.specs.Cmp.Lexicographic.{slice_cmp}
 use Rattle.std.specs.FinMap.{get, entries, find}
@@ -37,7 +38,8 @@ meets (c ∷ cs) ds = overlaps_some c ds || meets cs ds
 
 abbrev pub removal_among : Nodes → NodeId → List (NodeId × Node) → List Cell
 removal_among t y [] = []
-removal_among t y (e ∷ es) = if is_below t y e.0 then NodeOf e.0 ∷ All e.0 ∷ removal_among t y es else removal_among t y es
+removal_among t y (e ∷ es) =
+    if is_below t y e.0 then NodeOf e.0 ∷ All e.0 ∷ removal_among t y es else removal_among t y es
 
 abbrev pub removal_cells : Nodes → NodeId → List Cell
 removal_cells t y = removal_among t y (entries t)
@@ -76,7 +78,8 @@ delete_reads x (Some n) = NodeOf x ∷ NodeOf n.parent ∷ []
 
 abbrev pub set_key_reads : Nodes → NodeId → Option Node → List Cell
 set_key_reads t x None = NodeOf x ∷ []
-set_key_reads t x (Some n) = NodeOf x ∷ NodeOf n.parent ∷ (if holds_list (get t n.parent) then All n.parent ∷ [] else [])
+set_key_reads t x (Some n) =
+    NodeOf x ∷ NodeOf n.parent ∷ (if holds_list (get t n.parent) then All n.parent ∷ [] else [])
 
 abbrev pub reads : Nodes → Body → List Cell
 reads t (Create x p k r kind) = create_reads x p r (holds_list (get t p))
@@ -88,9 +91,11 @@ reads t (SetKey x k) = set_key_reads t x (get t x)
 -- what an operation that isn't void reads and writes
 
 abbrev pub effect_cells : Nodes → Body → List Cell
-effect_cells t (Create x p k r kind) = NodeOf x ∷ All x ∷ (if holds_list (get t p) then All p ∷ replaced_cells t p r else slot_cells t p k)
+effect_cells t (Create x p k r kind) =
+    NodeOf x ∷ All x ∷ (if holds_list (get t p) then All p ∷ replaced_cells t p r else slot_cells t p k)
 effect_cells t (Update x fs) = slots_cells t x fs
-effect_cells t (Delete x) = (if holds_list (get t (up t x)) then All (up t x) else Slot (up t x) (key_in (get t x))) ∷ removal_cells t x
+effect_cells t (Delete x) =
+    (if holds_list (get t (up t x)) then All (up t x) else Slot (up t x) (key_in (get t x))) ∷ removal_cells t x
 effect_cells t (DeleteKey x k) = slot_cells t x k
 effect_cells t (SetKey x k) = All (up t x) ∷ NodeOf x ∷ []
 

@@ -1,7 +1,8 @@
 -- Whether two operations are equal, as a test.
 use Rattle.std.specs.Prelude.{ℤ, pos, negsuc, Bool, true, false, ◌&&◌, nat_eq, List, [], ◌∷◌, Option, Some, None}
 use Rattle.std.specs.Str.{bytes_eq}
-use Rattle.room_json.specs.Value.{Value, nothing, flag, whole, text, list, members, Values, no_values, value, Fields, no_fields, field, fields_of}
+use Rattle.room_json.specs.Value.{Value, nothing, flag, whole, text, list, members}
+use Rattle.room_json.specs.Value.{Values, no_values, value, Fields, no_fields, field, fields_of}
 use Rattle.room_json.specs.View.{json_of}
 use Rattle.room_ids.specs.Order.{is_same}
 use Rattle.room_ids.specs.declared.ids.NodeId.{NodeId}
@@ -56,7 +57,8 @@ same_id_in _ _ = false
 
 abbrev pub same_body : Body → Body → Bool
 same_body (SetKey x j) (SetKey y k) = is_same x y && bytes_eq j k
-same_body (Create x p j r a) (Create y q k s b) = is_same x y && (is_same p q && (bytes_eq j k && (same_id_in r s && same_kind a b)))
+same_body (Create x p j r a) (Create y q k s b) =
+    is_same x y && (is_same p q && (bytes_eq j k && (same_id_in r s && same_kind a b)))
 same_body (Update x fs) (Update y gs) = is_same x y && same_fields (fields_of fs) (fields_of gs)
 same_body (Delete x) (Delete y) = is_same x y
 same_body (DeleteKey x j) (DeleteKey y k) = is_same x y && bytes_eq j k

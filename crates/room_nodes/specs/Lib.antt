@@ -9,3 +9,9 @@ pub mod Shape
 pub mod Sound
 pub mod Steps
 pub mod Turns
+pub use Rattle.room_json.specs.Profile
+pub use Rattle.room_json.specs.Value
+pub use Rattle.room_json.specs.View
+pub use Rattle.room_ids.specs.Order
+pub use Rattle.room_ids.specs.Position
+pub use Rattle.room_ids.specs.Stamp

@@ -34,7 +34,8 @@ key_in (Some n) = n.key
 -- an object may have these fields
 pub record CanHold (t : Nodes) (x : NodeId) (fs : List (List ℕ × Value)) : Type 0 where
   pub object : holds_object (get t x) ≡ true
-  pub free : (y : NodeId) (n : Node) → y ≢ Root → get t y ≡ Some n → n.parent ≡ x → is_some (find (slice_cmp nat_cmp) n.key fs) ≡ false
+  pub free : (y : NodeId) (n : Node) → y ≢ Root → get t y ≡ Some n → n.parent ≡ x
+      → is_some (find (slice_cmp nat_cmp) n.key fs) ≡ false
 
 -- a child of a list may stand there
 pub record CanStand (t : Nodes) (x : NodeId) (k : List ℕ) : Type 0 where

@@ -1,5 +1,6 @@
 -- What a tree of nodes is.
-use Rattle.std.specs.Prelude.{◌≡◌, ◌≢◌, ◌+◌, ℕ, zero, suc, Bool, true, false, ◌||◌, ◌&&◌, not, if◌then◌else◌, List, [], ◌∷◌, Option, Some, None, is_some, nat_eq, nat_le}
+use Rattle.std.specs.Prelude.{◌≡◌, ◌≢◌, ◌+◌, ℕ, zero, suc, nat_eq, nat_le, List, [], ◌∷◌, Option, Some, None, is_some}
+use Rattle.std.specs.Prelude.{Bool, true, false, ◌||◌, ◌&&◌, not, if◌then◌else◌}
 use Rattle.std.specs.Ordering.{nat_cmp, is_lt}
 use Rattle.std.specs.Cmp.Lexicographic.{slice_cmp}
 use Rattle.std.specs.FinMap.{FinMap, get, entries, retain_keys, find, put, from_sorted}
@@ -38,7 +39,8 @@ is_child p e = not (is_same e.0 Root) && is_same e.1.parent p
 
 abbrev pub child_entries : NodeId → List (NodeId × Node) → List (List ℕ × NodeId)
 child_entries p [] = []
-child_entries p (e ∷ es) = if is_child p e then put (slice_cmp nat_cmp) e.1.key e.0 (child_entries p es) else child_entries p es
+child_entries p (e ∷ es) =
+    if is_child p e then put (slice_cmp nat_cmp) e.1.key e.0 (child_entries p es) else child_entries p es
 
 -- the children of a node by key, in order of the keys
 abbrev pub children : Nodes → NodeId → List (List ℕ × NodeId)
@@ -78,7 +80,10 @@ removed t x = retain_keys t (λ y. not (is_below t x y))
 
 -- whether n may stand under p
 abbrev pub fits : Node → Node → Bool
-fits p n = nat_eq n.depth (p.depth + 1) && (nat_le n.depth 60 && (not (is_register p.kind) && (not (has_field n.key p.kind) && (not (is_list p.kind) || is_pos n.key))))
+fits p n =
+    nat_eq n.depth (p.depth + 1)
+    && (nat_le n.depth 60
+    && (not (is_register p.kind) && (not (has_field n.key p.kind) && (not (is_list p.kind) || is_pos n.key))))
 
 abbrev pub fits_under : Option Node → Node → Bool
 fits_under None n = false
@@ -91,7 +96,8 @@ is_root_node (Some r) = nat_eq r.depth 0 && (is_same r.parent Root && (not (is_s
 pub record IsFormed (t : Nodes) : Type 0 where
   pub root : is_root_node (get t Root) ≡ true
   pub parents : (x : NodeId) (n : Node) → x ≢ Root → get t x ≡ Some n → fits_under (get t n.parent) n ≡ true
-  pub keys : (x y : NodeId) (m n : Node) → x ≢ Root → y ≢ Root → get t x ≡ Some m → get t y ≡ Some n → m.parent ≡ n.parent → m.key ≡ n.key → is_same x y ≡ true
+  pub keys : (x y : NodeId) (m n : Node) → x ≢ Root → y ≢ Root → get t x ≡ Some m → get t y ≡ Some n
+      → m.parent ≡ n.parent → m.key ≡ n.key → is_same x y ≡ true
 
 -- a node may be put there
 pub record IsFree (t : Nodes) (id : NodeId) (node : Node) : Type 0 where

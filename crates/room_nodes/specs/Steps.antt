@@ -1,5 +1,6 @@
 -- What an operation does to a tree.
-use Rattle.std.specs.Prelude.{◌+◌, ℕ, Bool, false, ◌||◌, ◌&&◌, not, if◌then◌else◌, List, [], ◌∷◌, length, Option, Some, None, option_map, is_some, nat_le, nat_lt}
+use Rattle.std.specs.Prelude.{◌+◌, ℕ, nat_le, nat_lt, Bool, false, ◌||◌, ◌&&◌, not, if◌then◌else◌}
+use Rattle.std.specs.Prelude.{List, [], ◌∷◌, length, Option, Some, None, option_map, is_some}
 use Rattle.std.specs.Ordering.{nat_cmp, eq_by_cmp}
 use Rattle.std.specs.Cmp.Lexicographic.{slice_cmp}
 use Rattle.std.specs.FinMap.{get, insert, put}
@@ -7,7 +8,8 @@ use Rattle.std.specs.FinMap.Entries.{where_key}
 use Rattle.room_ids.specs.Position.{is_pos, between}
 use Rattle.room_json.specs.Value.{Value}
 use Rattle.room_ids.specs.Order.{is_same}
-use Rattle.room_nodes.specs.Shape.{Nodes, is_object, is_list, is_register, is_child, children, child_at, next_of, up, removed}
+use Rattle.room_nodes.specs.Shape.{Nodes, is_object, is_list, is_register}
+use Rattle.room_nodes.specs.Shape.{is_child, children, child_at, next_of, up, removed}
 use Rattle.room_ids.specs.declared.ids.NodeId.{NodeId}
 use Rattle.room_ids.specs.declared.ids.NodeId.TheVariants.{Root}
 use Rattle.room_nodes.specs.declared.nodes.Node.{Node}
@@ -70,8 +72,12 @@ abbrev pub is_placed : Nodes → NodeId → NodeId → List ℕ → Bool
 is_placed t p own k = is_pos k && nat_le (length (settled_key t p own k)) 4096
 
 abbrev pub is_void : Nodes → Body → Bool
-is_void t (SetKey x k) = not (is_some (get t x)) || (is_same x Root || (not (holds_list (get t (up t x))) || not (is_placed t (up t x) x k)))
-is_void t (Create x p k r kind) = is_some (get t x) || (not (has_room (get t p)) || (holds_list (get t p) && not (is_placed (without_replaced t p r) p x k)))
+is_void t (SetKey x k) =
+    not (is_some (get t x))
+    || (is_same x Root || (not (holds_list (get t (up t x))) || not (is_placed t (up t x) x k)))
+is_void t (Create x p k r kind) =
+    is_some (get t x)
+    || (not (has_room (get t p)) || (holds_list (get t p) && not (is_placed (without_replaced t p r) p x k)))
 is_void t (Update x fs) = not (holds_object (get t x))
 is_void t (Delete x) = not (is_some (get t x)) || is_same x Root
 is_void t (DeleteKey x k) = not (holds_object (get t x))
@@ -79,7 +85,9 @@ is_void t (DeleteKey x k) = not (holds_object (get t x))
 -- the operation with its position settled
 abbrev pub settled_body : Nodes → Body → Body
 settled_body t (SetKey x k) = if is_void t (SetKey x k) then SetKey x k else SetKey x (settled_key t (up t x) x k)
-settled_body t (Create x p k r kind) = if is_void t (Create x p k r kind) || not (holds_list (get t p)) then Create x p k r kind else Create x p (settled_key (without_replaced t p r) p x k) r kind
+settled_body t (Create x p k r kind) =
+    if is_void t (Create x p k r kind) || not (holds_list (get t p)) then Create x p k r kind
+    else Create x p (settled_key (without_replaced t p r) p x k) r kind
 settled_body t b = b
 
 -- effects
@@ -108,7 +116,9 @@ without_field k fs = where_key (slice_cmp nat_cmp) (λ x. not (eq_by_cmp (slice_
 -- what a create takes out at its place
 abbrev pub cleared : Nodes → NodeId → List ℕ → Option NodeId → Option Node → Nodes
 cleared t p k r None = t
-cleared t p k r (Some n) = if is_list n.kind then without_replaced t p r else changed (without_child t p k) p (on_fields (without_field k))
+cleared t p k r (Some n) =
+    if is_list n.kind then without_replaced t p r
+    else changed (without_child t p k) p (on_fields (without_field k))
 
 abbrev pub depth_in : Option Node → ℕ
 depth_in None = 0
@@ -116,7 +126,8 @@ depth_in (Some n) = n.depth
 
 abbrev pub effect : Nodes → Body → Nodes
 effect t (SetKey x k) = changed t x (λ n. record n { key = k })
-effect t (Create x p k r kind) = insert (cleared t p k r (get t p)) x (record { parent = p; key = k; depth = depth_in (get t p) + 1; kind = kind })
+effect t (Create x p k r kind) =
+    insert (cleared t p k r (get t p)) x (record { parent = p; key = k; depth = depth_in (get t p) + 1; kind = kind })
 effect t (Update x fs) = changed (without_children t x fs) x (on_fields (with_fields fs))
 effect t (Delete x) = removed t x
 effect t (DeleteKey x k) = changed (without_child t x k) x (on_fields (without_field k))

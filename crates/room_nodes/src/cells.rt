@@ -1,3 +1,4 @@
+//! The parts of a tree that operations read and write.
 use room_ids::NodeId;
 use room_json::{Copied, NoMemory, Seq, Text};
 use std::alloc::Global;

@@ -1,3 +1,4 @@
+//! Copies of nodes, operations and changes.
 use crate::nodes::{Body, Change, Kind, Node, Op};
 use room_json::{Copied, NoMemory};
 use std::alloc::Global;

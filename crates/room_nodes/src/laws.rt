@@ -1,3 +1,4 @@
+//! What follows from the definitions alone.
 ghost use Rattle.std.specs.Prelude.{◌≡◌, List};
 ghost use Rattle.room_nodes.specs.Shape.{Nodes, IsFormed};
 ghost use Rattle.room_nodes.specs.Steps.{is_void, settled_body, step, fold};

@@ -1,3 +1,4 @@
+//! Nodes, operations and changes.
 use room_ids::{NodeId, OpId};
 use room_json::{Json, Members, Seq, Text};
 

@@ -1,3 +1,4 @@
+//! Tests.
 use super::*;
 use room_ids::{NodeId, OpId, Stamp};
 use room_json::{Copied, Json, NoMemory, Sound, Text};
@@ -9,65 +10,49 @@ fn copied<T: Copied + Sound>(alloc: Global, value: &T) -> Result<T, NoMemory> {
     value.copy(alloc)
 }
 
-fn creation(key: Text) -> Result<Op, Fail> {
-    match Stamp::new(1, 2) {
-        Some(stamp) => Ok(Op {
-            id: OpId(stamp),
-            body: Body::Create {
-                node: NodeId::Made(stamp),
-                parent: NodeId::Root,
-                key,
-                replaces: None,
-                kind: Kind::Map,
-            },
-        }),
-        None => Err(Fail::new("no stamp")),
+fn creation(stamp: Stamp, key: Text) -> Op {
+    Op {
+        id: OpId(stamp),
+        body: Body::Create {
+            node: NodeId::Made(stamp),
+            parent: NodeId::Root,
+            key,
+            replaces: None,
+            kind: Kind::Register(Json::Flag(true)),
+        },
     }
-}
-
-#[test]
-fn nodes_are_copied(rt: HostRuntime) -> Result<(), Fail> {
-    let alloc = rt.alloc();
-    let node = Node {
-        parent: NodeId::Root,
-        key: Text::from_str(alloc, "k")?,
-        depth: 1,
-        kind: copied(alloc, &Kind::Register(Json::Flag(true)))?,
-    };
-    let node = copied(alloc, &node)?;
-    assert_eq!(rt; node.key.as_str(), "k");
-    assert!(rt; matches!(node.kind, Kind::Register(Json::Flag(true))));
-    steps_are_formed();
-    settling_twice_is_once();
-    Ok(())
 }
 
 #[test]
 fn operations_are_copied(rt: HostRuntime) -> Result<(), Fail> {
     let alloc = rt.alloc();
-    let op = creation(Text::from_str(alloc, "k")?)?;
-    let Op { id: _, body } = copied(alloc, &op)?;
-    let change = copied(alloc, &Change::Op(body))?;
-    assert!(rt; matches!(change, Change::Op(Body::Create { .. })));
+    if let Some(stamp) = Stamp::new(1, 2) {
+        let op = copied(alloc, &creation(stamp, Text::from_str(alloc, "k")?))?;
+        let change = copied(alloc, &Change::Op(op.body))?;
+        assert!(rt; matches!(change, Change::Op(Body::Create { .. })));
+    }
     Ok(())
 }
 
 #[test]
-fn cells_are_copied(rt: HostRuntime) -> Result<(), Fail> {
+fn nodes_and_cells_are_copied(rt: HostRuntime) -> Result<(), Fail> {
     let alloc = rt.alloc();
-    let cell = Cell::Slot(NodeId::Root, Text::from_str(alloc, "k")?);
-    assert!(rt; matches!(cell.copy(alloc)?, Cell::Slot(NodeId::Root, _)));
-    Ok(())
-}
-
-#[test]
-fn lists_are_copied(rt: HostRuntime) -> Result<(), Fail> {
-    let alloc = rt.alloc();
-    let mut bodies = Bodies::new(alloc);
-    bodies.push(Body::DeleteKey {
-        node: NodeId::Root,
+    let node = Node {
+        parent: NodeId::Root,
         key: Text::from_str(alloc, "k")?,
-    })?;
-    assert_eq!(rt; copied(alloc, &bodies)?.len(), 1);
+        depth: 1,
+        kind: Kind::Map,
+    };
+    let Node { key, .. } = copied(alloc, &node)?;
+    assert_eq!(rt; key.as_str(), "k");
+    let mut cells = Cells::new(alloc);
+    cells.push(Cell::Slot(NodeId::Root, key))?;
+    assert_eq!(rt; cells.copy(alloc)?.len(), 1);
     Ok(())
+}
+
+#[test]
+fn laws_are_called(_rt: HostRuntime) {
+    steps_are_formed();
+    settling_twice_is_once();
 }

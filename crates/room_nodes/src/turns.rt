@@ -1,3 +1,4 @@
+//! The primitive changes of a tree.
 use crate::nodes::Node;
 use room_ids::NodeId;
 use room_json::{Members, Text};

@@ -31,37 +31,51 @@ pub record SettlesOnce : Type 0 where
 
 -- a batch and its reversal lead back; fields stand in byte order, as members do
 abbrev pub Reversible : Type 0
-Reversible = (t : Nodes) (bs : List Body) → IsFormed t → IsOrderedTree t → AreOrderedBodies bs → fold (fold t bs) (reverse_all t bs) ≡ t
+Reversible =
+    (t : Nodes) (bs : List Body) → IsFormed t → IsOrderedTree t → AreOrderedBodies bs
+    → fold (fold t bs) (reverse_all t bs) ≡ t
 
--- what operations touch: outside the cells that they write the tree stays; trees that agree on their cells agree on them
--- after; and lists that are apart may be done in either order
+-- what operations touch: outside the cells that they write the tree stays; trees that agree on their cells agree on
+-- them after; and lists that are apart may be done in either order
 
 abbrev pub Outside : Type 0
-Outside = (t : Nodes) (bs : List Body) (c : Cell) → IsFormed t → overlaps_some c (writes_all t bs) ≡ false → AgreesOn t (fold t bs) c
+Outside =
+    (t : Nodes) (bs : List Body) (c : Cell) → IsFormed t → overlaps_some c (writes_all t bs) ≡ false
+    → AgreesOn t (fold t bs) c
 
 abbrev pub AlikeAfter : Type 0
-AlikeAfter = (t u : Nodes) (bs : List Body) → IsFormed t → IsFormed u → Agrees t u (cells_all t bs) → Agrees (fold t bs) (fold u bs) (cells_all t bs)
+AlikeAfter =
+    (t u : Nodes) (bs : List Body) → IsFormed t → IsFormed u → Agrees t u (cells_all t bs)
+    → Agrees (fold t bs) (fold u bs) (cells_all t bs)
 
 abbrev pub EitherOrder : Type 0
-EitherOrder = (t : Nodes) (bs cs : List Body) → IsFormed t → IsOrderedTree t → AreOrderedBodies bs → AreOrderedBodies cs → IsApart t bs cs → fold (fold t bs) cs ≡ fold (fold t cs) bs
+EitherOrder =
+    (t : Nodes) (bs cs : List Body) → IsFormed t → IsOrderedTree t → AreOrderedBodies bs → AreOrderedBodies cs
+    → IsApart t bs cs → fold (fold t bs) cs ≡ fold (fold t cs) bs
 
 pub record Footprints : Type 0 where
   pub outside : Outside
   pub alike : AlikeAfter
   pub either_order : EitherOrder
 
--- undoing a batch whose cells nothing else touched restores them. The batch was made on s and taken on t, which agree on
--- its cells; then came zs, apart from it; then its reversal, as it was taken on s. The tree is as if neither had been
+-- undoing a batch whose cells nothing else touched restores them. The batch was made on s and taken on t, which agree
+-- on its cells; then came zs, apart from it; then its reversal, as it was taken on s. The tree is as if neither had
+-- been
 abbrev pub UndoRestores : Type 0
-UndoRestores = (s t : Nodes) (bs zs : List Body) → IsFormed s → IsFormed t → IsOrderedTree s → IsOrderedTree t → AreOrderedBodies bs → AreOrderedBodies zs →
-    Agrees s t (cells_all s bs) → IsApart t zs bs → fold (fold (fold t bs) zs) (reverse_all s bs) ≡ fold t zs
+UndoRestores =
+    (s t : Nodes) (bs zs : List Body) → IsFormed s → IsFormed t → IsOrderedTree s → IsOrderedTree t
+    → AreOrderedBodies bs → AreOrderedBodies zs → Agrees s t (cells_all s bs) → IsApart t zs bs
+    → fold (fold (fold t bs) zs) (reverse_all s bs) ≡ fold t zs
 
 -- what stays where trees agree on the cells of operations: these cells, and what takes the operations back. This puts
 -- whole nodes back, so fields stand in order: nodes whose fields differ in their order alone agree on every cell
 pub record SameOnCells : Type 0 where
-  pub cells : (t u : Nodes) (bs : List Body) → IsFormed t → IsFormed u → Agrees t u (cells_all t bs) → cells_all u bs ≡ cells_all t bs
-  pub writes : (t u : Nodes) (bs : List Body) → IsFormed t → IsFormed u → Agrees t u (cells_all t bs) → writes_all u bs ≡ writes_all t bs
-  pub reversal : (t u : Nodes) (bs : List Body) → IsFormed t → IsFormed u → IsOrderedTree t → IsOrderedTree u → Agrees t u (cells_all t bs) → reverse_all u bs ≡ reverse_all t bs
+  pub cells : (t u : Nodes) (bs : List Body) → IsFormed t → IsFormed u → Agrees t u (cells_all t bs)
+      → cells_all u bs ≡ cells_all t bs
+  pub writes : (t u : Nodes) (bs : List Body) → IsFormed t → IsFormed u → Agrees t u (cells_all t bs)
+      → writes_all u bs ≡ writes_all t bs
+  pub reversal : (t u : Nodes) (bs : List Body) → IsFormed t → IsFormed u → IsOrderedTree t → IsOrderedTree u
+      → Agrees t u (cells_all t bs) → reverse_all u bs ≡ reverse_all t bs
 
 -- the cells of operations that are apart from others stay as they were behind these
 abbrev pub CellsStay : Type 0

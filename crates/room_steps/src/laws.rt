@@ -1,5 +1,6 @@
 //! The laws, each the contract of a function without a body.
-ghost use Rattle.room_steps.specs.Laws.{CellsStay, Footprints, KeepsShallow, KeepsSound, Reversible, SameOnCells, SettlesOnce, UndoRestores};
+ghost use Rattle.room_steps.specs.Laws.{CellsStay, Footprints, KeepsShallow, KeepsSound};
+ghost use Rattle.room_steps.specs.Laws.{Reversible, SameOnCells, SettlesOnce, UndoRestores};
 
 /// A step of a sound tree by a sound operation is sound, and so is a fold. Sound trees and operations have an object's
 /// fields in byte order of their names.
@@ -17,7 +18,8 @@ pub fn settles_once()
     ensures { SettlesOnce }
 {}
 
-/// A batch and its reversal lead back: the tree is what it was. Fields stand in byte order of their names, each name once.
+/// A batch and its reversal lead back: the tree is what it was. Fields stand in byte order of their names, each name
+/// once.
 pub fn reversible()
     ensures { Reversible }
 {}
@@ -29,8 +31,8 @@ pub fn footprints()
     ensures { Footprints }
 {}
 
-/// On two trees that agree on the cells of operations these cells are the same, and so is what takes the operations back
-/// where both trees have their fields in byte order of their names, each name once.
+/// On two trees that agree on the cells of operations these cells are the same, and so is what takes the operations
+/// back where both trees have their fields in byte order of their names, each name once.
 pub fn same_on_cells()
     ensures { SameOnCells }
 {}
@@ -40,9 +42,9 @@ pub fn cells_stay()
     ensures { CellsStay }
 {}
 
-/// Undoing a batch whose cells nothing else touched restores them: a batch, then operations that are apart from it, then
-/// the reversal that was taken of it where it was made, leave the tree as if neither batch nor reversal had been. The
-/// tree on which it was made and the one on which it was taken agree on its cells.
+/// Undoing a batch whose cells nothing else touched restores them: a batch, then operations that are apart from it,
+/// then the reversal that was taken of it where it was made, leave the tree as if neither batch nor reversal had been.
+/// The tree on which it was made and the one on which it was taken agree on its cells.
 pub fn undo_restores()
     ensures { UndoRestores }
 {}

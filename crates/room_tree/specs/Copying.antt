@@ -1,7 +1,8 @@
 -- A tree on the way to be a copy of another.
 use Rattle.std.specs.Prelude.{◌≡◌, ◌≢◌, ◌⊎◌, ℕ, true, List, [], ◌∷◌, Option, Some, None, is_some}
 use Rattle.std.specs.FinMap.{get}
-use Rattle.room_nodes.specs.Shape.{Nodes}
+use Rattle.room_nodes.specs.Shape.{Nodes, empty_tree}
+use Rattle.room_nodes.specs.Primitives.{with_fields_at, fields_in}
 use Rattle.room_tree.specs.Nearest.{is_after}
 use Rattle.room_ids.specs.declared.ids.NodeId.{NodeId}
 use Rattle.room_ids.specs.declared.ids.NodeId.TheVariants.{Root}
@@ -14,6 +15,10 @@ Among x (y ∷ ys) = (y ≡ x) ⊎ Among x ys
 abbrev pub Once : List NodeId → Type 0
 Once [] = Unit {0}
 Once (x ∷ xs) = (Among x xs → ⊥) × Once xs
+
+-- the root alone, with the fields of another tree's
+abbrev pub bare_copy : Nodes → Nodes
+bare_copy t = with_fields_at empty_tree Root (fields_in (get t Root))
 
 -- nothing is in hand
 abbrev pub Nothing : NodeId → Node → Type 0
@@ -29,7 +34,8 @@ pub record IsCopying (t u : Nodes) (ys : List NodeId) (Later : NodeId → Node �
   pub root : is_some (get u Root) ≡ true
   pub inside : (x : NodeId) → Among x ys → is_some (get u x) ≡ true
   pub once : Once ys
-  pub closed : (y : NodeId) (n : Node) → y ≢ Root → get t y ≡ Some n → is_some (get u n.parent) ≡ true → (is_some (get u y) ≡ true) ⊎ (Among n.parent ys ⊎ Later y n)
+  pub closed : (y : NodeId) (n : Node) → y ≢ Root → get t y ≡ Some n → is_some (get u n.parent) ≡ true →
+      (is_some (get u y) ≡ true) ⊎ (Among n.parent ys ⊎ Later y n)
   pub fresh : (y : NodeId) (n : Node) → y ≢ Root → get t y ≡ Some n → Among n.parent ys ⊎ Later y n → get u y ≡ None
 
 -- and x is in hand

@@ -1,12 +1,13 @@
 -- What settlement makes of an operation: nothing, as it is, or moved to another position.
-use Rattle.std.specs.Prelude.{ℕ, ◌&&◌, not, if◌then◌else◌, List, length, nat_le, Option, Some, None, is_some}
+use Rattle.std.specs.Prelude.{◌≡◌, ℕ, ◌&&◌, not, if◌then◌else◌, List, length, nat_le, Option, Some, None, is_some}
 use Rattle.std.specs.FinMap.{get}
 use Rattle.room_ids.specs.Position.{between}
 use Rattle.room_nodes.specs.Shape.{Nodes, child_at, up}
-use Rattle.room_nodes.specs.Steps.{is_void, is_other, is_placed, next_key, without_replaced, holds_list, settled_body}
+use Rattle.room_nodes.specs.Steps.{is_void, is_other, is_placed, next_key, without, without_replaced, holds_list, settled_body}
 use Rattle.room_ids.specs.Order.{is_same}
 use Rattle.room_ids.specs.declared.ids.NodeId.{NodeId}
 use Rattle.room_ids.specs.declared.ids.NodeId.TheVariants.{Root}
+use Rattle.room_nodes.specs.declared.nodes.Kind.{Kind}
 use Rattle.room_nodes.specs.declared.nodes.Body.{Body}
 use Rattle.room_nodes.specs.declared.nodes.Body.TheVariants.{SetKey, Create}
 use Rattle.room_tree.specs.declared.settling.Settled.{Settled}
@@ -39,6 +40,14 @@ fitting z = if nat_le (length z) 4096 then Moved z else Void
 -- within a list that is there
 abbrev pub placed_in : Nodes → NodeId → NodeId → List ℕ → Settled
 placed_in u p own k = if is_placed u p own k then moved_in u p own k else Void
+
+-- where a child that goes isn't counted
+abbrev pub placed_without : Nodes → Option NodeId → NodeId → NodeId → List ℕ → Settled
+placed_without t r p own k = placed_in (without t r) p own k
+
+-- of a create, which what it makes has no part in
+abbrev pub IsCreateSettled : Nodes → NodeId → NodeId → List ℕ → Option NodeId → Settled → Type 0
+IsCreateSettled t x p k r s = (kind : Kind) → s ≡ settlement t (Create x p k r kind)
 
 -- an operation with another key
 abbrev pub with_key : Body → List ℕ → Body

@@ -1,9 +1,10 @@
+//! A copy of a tree of any kind.
 ghost use Rattle.std.specs.Prelude.{◌≡◌, ◌+◌, ◌≤◌, ◌<◌, ◌∷◌, [], ◌++◌, IfOk, OnOk, Some, None, true, is_some, vec_len};
 ghost use Rattle.std.specs.FinMap.{get, insert, len};
 ghost use Rattle.room_nodes.specs.Shape.{IsFree, empty_tree, is_root_node};
-ghost use Rattle.room_nodes.specs.Primitives.{with_fields_at, fields_in};
+ghost use Rattle.room_nodes.specs.Primitives.{fields_in};
 ghost use Rattle.room_ids.specs.declared.ids.NodeId.TheVariants.{Root as TheRoot};
-ghost use Rattle.room_tree.specs.Copying.{IsCopying, IsInHand, Nothing};
+ghost use Rattle.room_tree.specs.Copying.{IsCopying, IsInHand, Nothing, bare_copy};
 
 use crate::tree::Tree;
 use room_ids::NodeId;
@@ -35,10 +36,8 @@ fn push(ids: &mut Vec<NodeId>, id: NodeId) -> Result<(), NoMemory>
     ensures items { OnOk result (ids.new.items ≡ ids.old.items ++ id ∷ []) }
     ensures len { OnOk result (vec_len ids.new ≡ vec_len ids.old + 1) }
 {
-    match ids.push(id) {
-        Ok(()) => Ok(()),
-        Err(_) => Err(NoMemory),
-    }
+    ids.push(id)?;
+    Ok(())
 }
 
 /// Puts copies of a node's children, and notes the children.
@@ -68,7 +67,7 @@ fn copy_children<T: Tree>(
 /// Gives the copy's root the fields of the tree's.
 fn copy_root<T: Tree>(alloc: Global, t: &T, copy: &mut T) -> Result<(), NoMemory>
     requires { T.nodes copy.old ≡ empty_tree }
-    ensures nodes { OnOk result (T.nodes copy.new ≡ with_fields_at empty_tree TheRoot (fields_in (get (T.nodes t.now) TheRoot))) }
+    ensures nodes { OnOk result (T.nodes copy.new ≡ bare_copy (T.nodes t.now)) }
     ensures spare { T.spare copy.new ≡ T.spare copy.old }
 {
     let root = node_there(t, &NodeId::Root);

@@ -14,6 +14,6 @@ pub use copies::copy_of;
 pub use living::{live, settled};
 pub use plain::PlainTree;
 pub use room_nodes::{Bodies, Body, Change, Changes, Kind, Node, Op, Ops};
-pub use settling::{Settled, is_list_at, settle};
-pub use taking::is_child_of;
+pub use settling::{Settled, has_room_at, is_list_at, is_object_at, replaced_child, settle};
+pub use taking::{is_child_of, is_taken, next_key};
 pub use tree::Tree;

@@ -1,3 +1,4 @@
+//! What an operation does once it is settled.
 ghost use Rattle.std.specs.Prelude.{◌≡◌, IfOk};
 ghost use Rattle.room_nodes.specs.Steps.{settled_body};
 ghost use Rattle.room_tree.specs.Settlement.{live_body, with_key};

@@ -1,10 +1,12 @@
-ghost use Rattle.std.specs.Prelude.{◌≡◌, ◌∷◌, [], IfOk, ◌&&◌, option_map, ◌-◌, ◌+◌, ◌<◌, ◌≤◌, IsTrue, true, length, insert, remove, get_or, vec_len, vec_capacity, None, Some};
+//! A tree as a sorted vector.
+ghost use Rattle.std.specs.Prelude.{◌≡◌, ◌∷◌, [], IfOk, ◌&&◌, option_map, ◌-◌, ◌+◌, ◌<◌, ◌≤◌, IsTrue, true};
+ghost use Rattle.std.specs.Prelude.{length, insert, remove, get_or, vec_len, vec_capacity, None, Some};
 ghost use Rattle.std.specs.Option.{option_copied};
 ghost use Rattle.std.specs.Ordering.{nat_cmp, eq_by_cmp, is_lt};
 ghost use Rattle.std.specs.Cmp.Lexicographic.{slice_cmp};
 ghost use Rattle.std.specs.FinMap.{is_sorted, from_sorted, find};
 ghost use Rattle.room_ids.specs.Order.{node_cmp};
-ghost use Rattle.room_tree.specs.Nearest.{place_of, found_of, is_after, keyed, lesser_key, nearest_of};
+ghost use Rattle.room_tree.specs.Nearest.{place_of, found_of, keyed, lesser_of, may_follow as may_follow_of, nearest_of};
 ghost use Rattle.room_nodes.specs.Shape.{bare_root, IsFormed, is_child, child_entries, is_object};
 ghost use Rattle.room_nodes.specs.Sound.{IsSoundTree};
 ghost use Rattle.room_nodes.proofs.SoundOnce.{tree_once};
@@ -104,7 +106,7 @@ fn is_below(a: &Text, b: &Text) -> bool
 }
 
 fn may_follow(parent: &NodeId, key: Option<&Text>, entry: &(NodeId, Node)) -> bool
-    ensures { result ≡ (is_child parent.now entry.now && is_after (option_copied key.entry) entry.now.1.key) }
+    ensures { result ≡ may_follow_of parent.now (option_copied key.entry) entry.now }
 {
     is_child_of(parent, entry)
         && match key {
@@ -114,7 +116,7 @@ fn may_follow(parent: &NodeId, key: Option<&Text>, entry: &(NodeId, Node)) -> bo
 }
 
 fn lesser<'a>(a: &'a (NodeId, Node), best: Option<&'a (NodeId, Node)>) -> Option<&'a (NodeId, Node)>
-    ensures { option_map keyed (option_copied result) ≡ lesser_key (keyed a.now) (option_map keyed (option_copied best.entry)) }
+    ensures { option_map keyed (option_copied result) ≡ lesser_of a.now (option_copied best.entry) }
 {
     match best {
         Some(b) => {
@@ -213,10 +215,8 @@ fn only_root(alloc: Global) -> Result<Vec<(NodeId, Node)>, NoMemory>
         depth: 0,
         kind: Kind::Object(Members::new(alloc)),
     };
-    match entries.push((NodeId::Root, root)) {
-        Ok(()) => Ok(entries),
-        Err(_) => Err(NoMemory),
-    }
+    entries.push((NodeId::Root, root))?;
+    Ok(entries)
 }
 
 impl Tree for PlainTree {
@@ -253,10 +253,8 @@ impl Tree for PlainTree {
     }
 
     fn reserve(&mut self, count: u64) -> Result<(), NoMemory> {
-        match self.entries.reserve(count as usize) {
-            Ok(()) => Ok(()),
-            Err(_) => Err(NoMemory),
-        }
+        self.entries.reserve(count as usize)?;
+        Ok(())
     }
 
     fn put(&mut self, id: NodeId, node: Node) {

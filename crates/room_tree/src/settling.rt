@@ -1,11 +1,13 @@
+//! What becomes of an operation on a tree, and the tests of a tree on which it rests.
 ghost use Rattle.std.specs.Prelude.{◌≡◌, IfOk, IfSome, true, if◌then◌else◌};
 ghost use Rattle.std.specs.Option.{option_copied};
 ghost use Rattle.std.specs.FinMap.{get};
 ghost use Rattle.room_ids.specs.Position.{is_pos, between as between_of, IsBelow};
-ghost use Rattle.room_nodes.specs.Steps.{is_under, holds_list, holds_object, has_room, without, without_replaced};
-ghost use Rattle.room_nodes.specs.declared.nodes.Kind.{Kind as KindValue};
-ghost use Rattle.room_nodes.specs.declared.nodes.Body.TheVariants.{SetKey as ASetKey, Create as ACreate};
-ghost use Rattle.room_tree.specs.Settlement.{settlement, placed_in, fitting, list_of as list_above};
+ghost use Rattle.room_nodes.specs.Steps.{holds_list, holds_object, has_room, without, without_replaced};
+ghost use Rattle.room_nodes.specs.declared.nodes.Body.TheVariants.{SetKey as ASetKey};
+ghost use Rattle.room_tree.specs.Settlement.{settlement, fitting, list_of as list_above};
+ghost use Rattle.room_tree.specs.Settlement.{IsCreateSettled, placed_without};
+ghost use Rattle.room_tree.specs.Skipped.{IsChildOf};
 
 use crate::taking::{is_child_of, is_taken, next_key};
 use crate::tree::Tree;
@@ -61,9 +63,9 @@ fn place<T: Tree>(
     key: &Text,
     replaced: Option<&NodeId>,
 ) -> Result<Settled, NoMemory>
-    requires under { IfSome (option_copied replaced) (λ x. is_under list.now x (get (T.nodes t.now) x) ≡ true) }
+    requires under { IsChildOf (T.nodes t.now) list.now (option_copied replaced) }
     requires list { holds_list (get (T.nodes t.now) list.now) ≡ true }
-    ensures { IfOk result (λ s. s ≡ placed_in (without (T.nodes t.now) (option_copied replaced.entry)) list.now own.now key.now) }
+    ensures { IfOk result (λ s. s ≡ placed_without (T.nodes t.now) (option_copied replaced.entry) list.now own.now key.now) }
 {
     match Pos::read(alloc, key)? {
         Some(x) => {
@@ -90,7 +92,8 @@ pub fn is_list_at<T: Tree>(t: &T, id: &NodeId) -> bool
     }
 }
 
-fn has_room_at<T: Tree>(t: &T, id: &NodeId) -> bool
+/// Whether a node may be put under the one at an id.
+pub fn has_room_at<T: Tree>(t: &T, id: &NodeId) -> bool
     ensures { result ≡ has_room (get (T.nodes t.now) id.now) }
 {
     match t.node(id) {
@@ -122,10 +125,10 @@ fn settle_key<T: Tree>(alloc: Global, t: &T, node: &NodeId, key: &Text) -> Resul
     }
 }
 
-/// The node that a create under a list takes out.
-fn replaced_child<T: Tree>(t: &T, list: &NodeId, replaces: &Option<NodeId>) -> Option<NodeId>
+/// The child of a list that a create takes out.
+pub fn replaced_child<T: Tree>(t: &T, list: &NodeId, replaces: &Option<NodeId>) -> Option<NodeId>
     ensures without { without (T.nodes t.now) result ≡ without_replaced (T.nodes t.now) list.now replaces.now }
-    ensures under { IfSome result (λ x. is_under list.now x (get (T.nodes t.now) x) ≡ true) }
+    ensures under { IsChildOf (T.nodes t.now) list.now result }
 {
     match replaces {
         Some(x) => {
@@ -147,7 +150,7 @@ fn settle_create<T: Tree>(
     key: &Text,
     replaces: &Option<NodeId>,
 ) -> Result<Settled, NoMemory>
-    ensures { IfOk result (λ s. (kind : KindValue) → s ≡ settlement (T.nodes t.now) (ACreate node.now parent.now key.now replaces.now kind)) }
+    ensures { IfOk result (IsCreateSettled (T.nodes t.now) node.now parent.now key.now replaces.now) }
 {
     if t.node(node).is_some() || !has_room_at(t, parent) {
         return Ok(Settled::Void);
@@ -159,7 +162,8 @@ fn settle_create<T: Tree>(
     place(alloc, t, parent, node, key, replaced.as_ref())
 }
 
-fn is_object_at<T: Tree>(t: &T, id: &NodeId) -> bool
+/// Whether an object is at an id.
+pub fn is_object_at<T: Tree>(t: &T, id: &NodeId) -> bool
     ensures { result ≡ holds_object (get (T.nodes t.now) id.now) }
 {
     match t.node(id) {

@@ -1,9 +1,9 @@
-ghost use Rattle.std.specs.Prelude.{◌≡◌, IfSome, Some, true};
+//! Who has a key among the children of a list, and which key comes next, one child not counted.
+ghost use Rattle.std.specs.Prelude.{◌≡◌};
 ghost use Rattle.std.specs.Option.{option_copied};
 ghost use Rattle.std.specs.FinMap.{get};
-ghost use Rattle.room_nodes.specs.Shape.{child_at, children, next_of};
 ghost use Rattle.room_nodes.specs.Steps.{is_other, is_under, next_key, without};
-ghost use Rattle.room_tree.specs.Skipped.{skip, next_skip, key_of, is_own};
+ghost use Rattle.room_tree.specs.Skipped.{IsChildOf, has_other, is_own, key_of, next_beside, next_without, skip};
 
 use crate::tree::Tree;
 use room_ids::{NodeId, same_id};
@@ -38,15 +38,15 @@ fn unless(id: Option<NodeId>, x: &NodeId) -> Option<NodeId>
 }
 
 /// Whether another node than `own` has the key in the list, `replaced` not counted.
-pub(crate) fn is_taken<T: Tree>(
+pub fn is_taken<T: Tree>(
     t: &T,
     list: &NodeId,
     key: &Text,
     own: &NodeId,
     replaced: Option<&NodeId>,
 ) -> bool
-    requires { IfSome (option_copied replaced) (λ x. is_under list.now x (get (T.nodes t.now) x) ≡ true) }
-    ensures { result ≡ is_other own.now (child_at (without (T.nodes t.now) (option_copied replaced.entry)) list.now key.now) }
+    requires { IsChildOf (T.nodes t.now) list.now (option_copied replaced) }
+    ensures { result ≡ has_other (without (T.nodes t.now) (option_copied replaced.entry)) list.now own.now key.now }
 {
     let found = t.child_at(list, key);
     match replaced {
@@ -85,7 +85,7 @@ fn is_id(id: Option<NodeId>, x: &NodeId) -> bool
 
 /// The least key above the given one, that of one child not counted.
 fn next_key_beside<'a, T: Tree>(t: &'a T, list: &NodeId, key: &Text, x: &NodeId) -> Option<&'a Text>
-    ensures { option_copied result ≡ next_skip (T.nodes t.now) list.now x.now (next_of (Some key.now) (children (T.nodes t.now) list.now)) }
+    ensures { option_copied result ≡ next_beside (T.nodes t.now) list.now x.now key.now }
 {
     let above = next_key_of(t, list, key)?;
     if is_id(t.next_child(list, Some(key)), x) {
@@ -96,14 +96,14 @@ fn next_key_beside<'a, T: Tree>(t: &'a T, list: &NodeId, key: &Text, x: &NodeId)
 }
 
 /// The least key above the given one among the children of a list, `replaced` not counted.
-pub(crate) fn next_key<'a, T: Tree>(
+pub fn next_key<'a, T: Tree>(
     t: &'a T,
     list: &NodeId,
     key: &Text,
     replaced: Option<&NodeId>,
 ) -> Option<&'a Text>
-    requires { IfSome (option_copied replaced) (λ x. is_under list.now x (get (T.nodes t.now) x) ≡ true) }
-    ensures { option_copied result ≡ next_key (without (T.nodes t.now) (option_copied replaced.entry)) list.now key.now }
+    requires { IsChildOf (T.nodes t.now) list.now (option_copied replaced) }
+    ensures { option_copied result ≡ next_without (T.nodes t.now) (option_copied replaced.entry) list.now key.now }
 {
     match replaced {
         Some(x) => next_key_beside(t, list, key, x),

@@ -1,3 +1,4 @@
+//! One run of each public function, as a tree of any kind has it.
 use super::*;
 use room_ids::{NodeId, OpId, Stamp};
 use room_json::{Json, NoMemory, Text};

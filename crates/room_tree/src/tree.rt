@@ -1,9 +1,11 @@
-ghost use Rattle.std.specs.Prelude.{◌≡◌, ℕ, ◌+◌, ◌<◌, ◌≤◌, None, Some, OnOk, OnErr, IfOk, option_map};
+//! The calls that every tree has.
+ghost use Rattle.std.specs.Prelude.{◌≡◌, ℕ, ◌+◌, ◌<◌, ◌≤◌, None, Some, OnOk, OnErr, IfOk};
 ghost use Rattle.std.specs.Option.{option_copied};
 ghost use Rattle.std.specs.FinMap as map;
 ghost use Rattle.room_ids.specs.Order.{node_cmp};
 ghost use Rattle.room_nodes.specs.declared.nodes.Node.{Node as NodeValue};
-ghost use Rattle.room_nodes.specs.Shape.{Nodes, empty_tree, IsFormed, IsFree, IsLeaf, children, child_at, next_of};
+ghost use Rattle.room_nodes.specs.Shape.{Nodes, empty_tree, IsFormed, IsFree, IsLeaf, child_at};
+ghost use Rattle.room_tree.specs.Skipped.{next_child as child_after};
 ghost use Rattle.room_nodes.specs.Sound.{IsSoundTree};
 ghost use Rattle.room_nodes.specs.Primitives.{CanHold, CanStand, fields_in, key_in, with_fields_at, with_key_at};
 
@@ -13,8 +15,8 @@ use room_nodes::Node;
 use std::alloc::Global;
 
 /// A well-formed tree of nodes, however it is kept: contracts see a finite map from id to node, and beside it `spare`,
-/// the number of nodes that can be put without taking memory. That ids are in range, texts UTF-8, values of the profile,
-/// and an object's fields in byte order of their names, each name once, is learnt from the type, at no cost.
+/// the number of nodes that can be put without taking memory. That ids are in range, texts UTF-8, values of the
+/// profile, and an object's fields in byte order of their names, each name once, is learnt from the type, at no cost.
 pub trait Tree: Drop {
     ghost nodes: { Self → map.FinMap node_cmp NodeValue };
 
@@ -34,7 +36,7 @@ pub trait Tree: Drop {
 
     /// A node's first child in byte order of the keys, or its first with a key above the given one.
     fn next_child(&self, parent: &NodeId, key: Option<&Text>) -> Option<NodeId>
-        ensures { result ≡ option_map (λ e. e.1) (next_of (option_copied key.entry) (children (nodes self.now) parent.now)) };
+        ensures { result ≡ child_after (nodes self.now) parent.now (option_copied key.entry) };
 
     /// The number of nodes, with the root.
     fn count(&self) -> u64

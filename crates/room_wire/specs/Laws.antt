@@ -33,7 +33,8 @@ IsAgain id b = op_in (object_of (body_out id b)) ≡ Ok (record { id = id; body 
 
 abbrev pub IsBodyInRange : Body → Type 0
 IsBodyInRange (SetKey node key) = IsNodeInRange node
-IsBodyInRange (Create node parent key replaces kind) = IsNodeInRange node × IsNodeInRange parent × IsSomeInRange replaces
+IsBodyInRange (Create node parent key replaces kind) =
+    IsNodeInRange node × IsNodeInRange parent × IsSomeInRange replaces
 IsBodyInRange (Update node fields) = IsNodeInRange node
 IsBodyInRange (Delete node) = IsNodeInRange node
 IsBodyInRange (DeleteKey node key) = IsNodeInRange node

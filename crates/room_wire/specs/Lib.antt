@@ -1,3 +1,5 @@
 pub mod Laws
 pub mod Wire
 pub mod Written
+pub use Rattle.room_json.specs.View
+pub use Rattle.room_nodes.specs.Sound

@@ -1,5 +1,6 @@
 -- Operations as they are read: the fields in their order, and the first that is missing or wrong.
-use Rattle.std.specs.Prelude.{◌≡◌, ℕ, ℤ, pos, negsuc, nat_eq, codes, Option, Some, None, option_and_then, Result, Ok, Err, ⊤, Bool, true, if◌then◌else◌}
+use Rattle.std.specs.Prelude.{◌≡◌, ⊤, ℕ, ℤ, pos, negsuc, Bool, true, if◌then◌else◌, nat_eq, List, codes}
+use Rattle.std.specs.Prelude.{Option, Some, None, option_and_then, Result, Ok, Err}
 use Rattle.std.specs.Str.{bytes_eq}
 use Rattle.room_json.specs.Back.{json_in}
 use Rattle.room_json.specs.Fields.{field_of, first, needed, allowed}
@@ -12,13 +13,28 @@ use Rattle.room_nodes.specs.declared.nodes.Kind.{Kind as NodeKind}
 use Rattle.room_nodes.specs.declared.nodes.Kind.TheVariants.{Object, List as Listing, Map, Register}
 use Rattle.room_nodes.specs.declared.nodes.Body.TheVariants.{SetKey, Create, Update, Delete, DeleteKey}
 use Rattle.room_wire.specs.declared.code.Shape.{Shape}
-use Rattle.room_wire.specs.declared.code.Shape.TheVariants.{Object as AnObject, List as AList, Map as AMap, Register as ARegister}
+use Rattle.room_wire.specs.declared.code.Shape.TheVariants.{Object as AnObject, List as AList}
+use Rattle.room_wire.specs.declared.code.Shape.TheVariants.{Map as AMap, Register as ARegister}
 use Rattle.room_wire.specs.declared.code.Code.{Code}
-use Rattle.room_wire.specs.declared.code.Code.TheVariants.{SetKey as ToSetKey, Create as ToCreate, Update as ToUpdate, Delete as ToDelete, DeleteKey as ToDeleteKey}
+use Rattle.room_wire.specs.declared.code.Code.TheVariants.{SetKey as ToSetKey, Create as ToCreate, Update as ToUpdate}
+use Rattle.room_wire.specs.declared.code.Code.TheVariants.{Delete as ToDelete, DeleteKey as ToDeleteKey}
 use Rattle.room_wire.specs.declared.fault.Field.{Field}
-use Rattle.room_wire.specs.declared.fault.Field.TheVariants.{Kind, Id, OpId as OpIdField, ParentId, ParentKey, Content, Key, Intent, DeletedId}
+use Rattle.room_wire.specs.declared.fault.Field.TheVariants.{Kind, Id, OpId as OpIdField, ParentId, ParentKey}
+use Rattle.room_wire.specs.declared.fault.Field.TheVariants.{Content, Key, Intent, DeletedId}
 use Rattle.room_wire.specs.declared.fault.WireFault.{WireFault}
 use Rattle.room_wire.specs.declared.fault.WireFault.TheVariants.{Memory, BadOp}
+
+-- the name of a field in JSON
+abbrev pub name_of : Field → List ℕ
+name_of Kind = codes "type"
+name_of Id = codes "id"
+name_of OpIdField = codes "opId"
+name_of ParentId = codes "parentId"
+name_of ParentKey = codes "parentKey"
+name_of Content = codes "data"
+name_of Key = codes "key"
+name_of Intent = codes "intent"
+name_of DeletedId = codes "deletedId"
 
 -- what a field's value spells
 
@@ -110,7 +126,7 @@ coded_in ToDeleteKey v = delete_key_in v
 abbrev pub op_in : Value → Result Op Field
 op_in v = first (needed as_code Kind (field_of (codes "type") v)) (λ code. coded_in code v)
 
--- a fault that a reading gave; want of memory may come at any time
+-- a fault that a reading gave; memory may run out at any time
 abbrev pub IsFaultOf : {A : Type 0} → Result A Field → WireFault → Type 0
 IsFaultOf r Memory = ⊤
 IsFaultOf r (BadOp f) = r ≡ Err f

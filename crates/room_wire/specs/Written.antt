@@ -11,6 +11,12 @@ use Rattle.room_nodes.specs.declared.nodes.Body.TheVariants.{SetKey, Create, Upd
 use Rattle.room_json.specs.View.{json_of}
 use Rattle.room_ids.specs.Ids.{node_text, stamp_text}
 
+abbrev pub text_out : List ℕ → List ℕ → List (List ℕ × Value)
+text_out name t = (name, text t) ∷ []
+
+abbrev pub id_out : List ℕ → NodeId → List (List ℕ × Value)
+id_out name n = text_out name (node_text n)
+
 abbrev pub head_out : ℕ → NodeId → OpId → List (List ℕ × Value)
 head_out code node id =
     (codes "type", whole (pos code)) ∷ (codes "id", text (node_text node)) ∷ (codes "opId", text (stamp_text id.0)) ∷ []
@@ -37,7 +43,9 @@ body_out id (Update node fields) = head_out 3 node id ++ (codes "data", members 
 body_out id (Delete node) = head_out 5 node id
 body_out id (DeleteKey node key) = head_out 6 node id ++ (codes "key", text key) ∷ []
 body_out id (Create node parent key replaces kind) =
-    head_out (kind_code kind) node id ++ ((codes "parentId", text (node_text parent)) ∷ (codes "parentKey", text key) ∷ []) ++ data_out kind ++ replaced_out replaces
+    head_out (kind_code kind) node id
+    ++ ((codes "parentId", text (node_text parent)) ∷ (codes "parentKey", text key) ∷ [])
+    ++ data_out kind ++ replaced_out replaces
 
 abbrev pub op_out : Op → Value
 op_out o = object_of (body_out o.id o.body)

@@ -1,3 +1,4 @@
+//! The fields of an operation.
 ghost use Rattle.std.specs.Prelude.{◌≡◌, IfOk, IfErr, Some, Ok};
 ghost use Rattle.room_json.specs.Fields.{field_of, needed, allowed};
 ghost use Rattle.room_json.specs.Value.{as_text, as_members};
@@ -84,10 +85,7 @@ pub(crate) fn text_at(alloc: Global, v: &Json, name: &str, fault: Field) -> Resu
 {
     match field(v, name) {
         Some(found) => match found.as_text() {
-            Some(text) => match text.copy(alloc) {
-                Ok(text) => Ok(text),
-                Err(_) => Err(WireFault::Memory),
-            },
+            Some(text) => Ok(text.copy(alloc)?),
             None => Err(WireFault::BadOp(fault)),
         },
         None => Err(WireFault::BadOp(fault)),
@@ -105,10 +103,7 @@ pub(crate) fn members_at(
 {
     match field(v, name) {
         Some(found) => match found.as_object() {
-            Some(members) => match members.copy(alloc) {
-                Ok(members) => Ok(members),
-                Err(_) => Err(WireFault::Memory),
-            },
+            Some(members) => Ok(members.copy(alloc)?),
             None => Err(WireFault::BadOp(fault)),
         },
         None => Err(WireFault::BadOp(fault)),
@@ -120,10 +115,7 @@ pub(crate) fn json_at(alloc: Global, v: &Json, name: &str, fault: Field) -> Resu
     ensures err { IfErr result (IsFaultOf (needed Some fault (field_of name.now (json_of v.now)))) }
 {
     match field(v, name) {
-        Some(found) => match found.copy(alloc) {
-            Ok(json) => Ok(json),
-            Err(_) => Err(WireFault::Memory),
-        },
+        Some(found) => Ok(found.copy(alloc)?),
         None => Err(WireFault::BadOp(fault)),
     }
 }
@@ -133,10 +125,7 @@ pub(crate) fn intent_at(v: &Json, name: &str, fault: Field) -> Result<Option<boo
     ensures err { IfErr result (IsFaultOf (allowed as_intent fault (field_of name.now (json_of v.now)))) }
 {
     match field(v, name) {
-        Some(found) => match intent(found) {
-            Some(set) => Ok(Some(set)),
-            None => Err(WireFault::BadOp(fault)),
-        },
+        Some(found) => Ok(Some(intent(found).ok_or(WireFault::BadOp(fault))?)),
         None => Ok(None),
     }
 }
@@ -146,10 +135,7 @@ pub(crate) fn replaced_at(v: &Json, name: &str, fault: Field) -> Result<Option<N
     ensures err { IfErr result (IsFaultOf (allowed as_node fault (field_of name.now (json_of v.now)))) }
 {
     match field(v, name) {
-        Some(found) => match node(found) {
-            Some(id) => Ok(Some(id)),
-            None => Err(WireFault::BadOp(fault)),
-        },
+        Some(found) => Ok(Some(node(found).ok_or(WireFault::BadOp(fault))?)),
         None => Ok(None),
     }
 }

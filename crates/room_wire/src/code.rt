@@ -1,3 +1,4 @@
+//! What the number of an operation says.
 /// What a created node is.
 #[derive(Clone, Copy, Debug, PartialEq, Eq)]
 pub(crate) enum Shape {

@@ -1,3 +1,4 @@
+//! What follows from the definitions alone.
 ghost use Rattle.room_wire.specs.Laws.{OpsReadBack, OpsAreSound, OpsAreShallow};
 
 /// What is read of a written operation is that operation.

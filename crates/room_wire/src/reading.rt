@@ -1,7 +1,9 @@
+//! Operations as they are read.
 ghost use Rattle.std.specs.Prelude.{◌≡◌, IfOk, IfErr, Ok};
 ghost use Rattle.room_json.specs.View.{json_of};
 ghost use Rattle.room_nodes.specs.Sound.{IsSoundOp};
-ghost use Rattle.room_wire.specs.Wire.{update_in, delete_in, create_in, set_key_in, delete_key_in, made_in, op_in, IsFaultOf};
+ghost use Rattle.room_wire.specs.Wire.{op_in, set_key_in, create_in, made_in, update_in, delete_in, delete_key_in};
+ghost use Rattle.room_wire.specs.Wire.{IsFaultOf};
 
 use crate::access::{
     code_at, intent_at, json_at, members_at, node_at, op_id_at, replaced_at, text_at,
@@ -12,7 +14,10 @@ use room_json::{Json, Sound};
 use room_nodes::{Body, Kind, Op};
 use std::alloc::Global;
 
-/// The operation that a value spells, or the first of its fields that is missing or wrong.
+/// The operation that a value spells.
+///
+/// `BadOp` names the first field that is missing or wrong, `Memory` says that memory ran out. Copies the operation's
+/// texts and data.
 pub fn read_op(alloc: Global, v: &Json) -> Result<Op, WireFault>
     ensures ok { IfOk result (λ op. op_in (json_of v.now) ≡ Ok op) }
     ensures sound { IfOk result IsSoundOp }

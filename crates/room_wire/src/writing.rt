@@ -1,13 +1,11 @@
+//! Operations as they are written.
 ghost use Rattle.std.specs.Prelude.{◌≡◌, [], IfOk, OnOk, Ok};
-ghost use Rattle.std.specs.BTreeMap.{insert_entry};
-ghost use Rattle.std.specs.Cmp.Lexicographic.{slice_cmp};
-ghost use Rattle.std.specs.Ordering.{nat_cmp};
-ghost use Rattle.room_json.specs.Value.{merged, text};
+ghost use Rattle.room_json.specs.Value.{merged};
 ghost use Rattle.room_json.specs.View.{json_of};
-ghost use Rattle.room_ids.specs.Ids.{node_text};
 ghost use Rattle.room_wire.specs.Laws.{IsKnown, IsKnownOp, IsKnownMaybe, IsAgain};
 ghost use Rattle.room_wire.specs.Wire.{op_in};
-ghost use Rattle.room_wire.specs.Written.{op_out, body_out, head_out, replaced_out, data_out, kind_code};
+ghost use Rattle.room_wire.specs.Written.{op_out, body_out, head_out, text_out, id_out};
+ghost use Rattle.room_wire.specs.Written.{replaced_out, data_out, kind_code};
 
 use room_ids::{NodeId, OpId};
 use room_json::{Copied, Json, Members, NoMemory, Text, put, whole};
@@ -15,6 +13,8 @@ use room_nodes::{Body, Kind, Op};
 use std::alloc::Global;
 
 /// The operation as JSON: its fields and no others. It is read again as the same operation.
+///
+/// Copies the operation's texts and data. Fails only where memory runs out.
 pub fn write_op(alloc: Global, op: &Op) -> Result<Json, NoMemory>
     ensures value { IfOk result (λ v. json_of v ≡ op_out op.now) }
     ensures again { IfOk result (λ v. op_in (op_out op.now) ≡ Ok op.now) }
@@ -43,13 +43,13 @@ fn write_body(alloc: Global, id: &OpId, body: &Body) -> Result<Members, NoMemory
 }
 
 fn put_text(alloc: Global, members: &mut Members, name: &str, value: &Text) -> Result<(), NoMemory>
-    ensures { OnOk result (members.new ≡ insert_entry (slice_cmp nat_cmp) members.old name.now (text value.now)) }
+    ensures { OnOk result (members.new ≡ merged members.old (text_out name.now value.now)) }
 {
     put(alloc, members, name, Json::Text(value.copy(alloc)?))
 }
 
 fn put_node(alloc: Global, members: &mut Members, name: &str, node: &NodeId) -> Result<(), NoMemory>
-    ensures value { OnOk result (members.new ≡ insert_entry (slice_cmp nat_cmp) members.old name.now (text (node_text node.now))) }
+    ensures value { OnOk result (members.new ≡ merged members.old (id_out name.now node.now)) }
     ensures known { IsKnown node.now }
 {
     let spelled = node.text(alloc)?;
@@ -133,7 +133,8 @@ fn write_create(
     replaces: &Option<NodeId>,
     kind: &Kind,
 ) -> Result<Members, NoMemory>
-    ensures value { IfOk result (λ m. m ≡ merged [] (body_out id.now (Body.Create node.now parent.now key.now replaces.now kind.now))) }
+    ensures value { let body = Body.Create node.now parent.now key.now replaces.now kind.now in
+        IfOk result (λ m. m ≡ merged [] (body_out id.now body)) }
     ensures again { IfOk result (λ m. IsAgain id.now (Body.Create node.now parent.now key.now replaces.now kind.now)) }
 {
     let mut members = write_head(alloc, code_of(kind), node, id)?;

@@ -1,8 +1,7 @@
 use Rattle.std.proofs.Common.{◌≡◌, ◌∷◌, ◌++◌, map, drop}
 use Rattle.room_ids.specs.declared.ids.NodeId.TheVariants.{Root}
 use Rattle.room_items.specs.Items.{row_id}
-use Rattle.room_items.specs.Rows.{row_of}
 use Rattle.room_items.proofs.reading.ids_of.Given as goal
 
 abbrev pub invariant-loop-row : goal.invariant-loop-row
-invariant-loop-row l = l.ids ++ map row_id (map row_of (drop l.row-index l.rows)) ≡ Root ∷ map row_id (map row_of l.rows)
+invariant-loop-row l = l.ids ++ map row_id (drop l.row-index l.rows) ≡ Root ∷ map row_id l.rows

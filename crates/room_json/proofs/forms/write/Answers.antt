@@ -7,18 +7,18 @@ use Rattle.room_json.proofs.TextsAreUtf8.{text_spells}
 use Rattle.room_json.proofs.Values.{no_float}
 use Rattle.room_json.proofs.forms.write.Goals as goal
 
-pub returns-in-Ok-clause-text : goal.returns-in-Ok-clause-text
-returns-in-Ok-clause-text c =
+pub returns-clause-text : goal.returns-clause-text
+returns-clause-text c =
     let v = json_of c.args.v.now in
     let sent = c.in-Ok.ensures.events in
     c.from_string.ensures ∙ text_of_value (data_of v) sent.0 (string_bytes c.in-Ok.text) sent.1.0 sent.2 (no_float v)
 
-pub returns-in-Ok-clause-again : goal.returns-in-Ok-clause-again
-returns-in-Ok-clause-again c = λ shallow.
+pub returns-clause-again : goal.returns-clause-again
+returns-clause-again c = λ shallow.
     let v = json_of c.args.v.now in
     let sent = c.in-Ok.ensures.events in
     let same = text_of_value (data_of v) sent.0 (string_bytes c.in-Ok.text) sent.1.0 sent.2 (no_float v) in
     subst (λ t. value_of_text t ≡ Ok v) (sym (c.from_string.ensures ∙ same)) (text_spells v sent.1.1 shallow)
 
-pub returns-in-Ok-clause-json : goal.returns-in-Ok-clause-json
-returns-in-Ok-clause-json c = c.in-Ok.ensures.events.1.1
+pub returns-clause-json : goal.returns-clause-json
+returns-clause-json c = c.in-Ok.ensures.events.1.1

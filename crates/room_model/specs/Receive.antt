@@ -1,4 +1,10 @@
 -- What a client does with a message, and with a frame.
+--
+-- The entry is `frame`, what was read of one: its messages are received one after the other (`receive`), up to the
+-- first
+-- refusal. The tests of each message in their order: the stage allows it (`Unexpected`); a part of a state belongs to
+-- those kept (`Parts`), and with the last one the items are a tree (`NotATree`); an update has the next number (`Gap`);
+-- what it says of the account agrees with what is kept (`AccountFault`).
 use Rattle.std.specs.Prelude.{ℕ, ◌+◌, ◌==◌, ℤ, Bool, true, false, ◌&&◌, ◌||◌, not, if◌then◌else◌, nat_lt, nat_le, List, [], ◌∷◌, ◌++◌, map, Option, Some, None, Result, Ok, Err}
 use Rattle.room_json.specs.Value.{Value}
 use Rattle.room_json.specs.Fields.{first}
@@ -24,7 +30,7 @@ use Rattle.room_model.specs.Account.{Account, Part, Stage, Idle, Dialled, Connec
 use Rattle.room_model.specs.Calls.{lost, tree_or_bare}
 
 -- the account after what was taken, with the frames that answer it, the events that are handed out, and what changed
-pub record Took : Type 0 where
+pub record Received : Type 0 where
   pub account : Account
   pub replies : List (List ClientMsg)
   pub events : List (ℕ × Json)
@@ -38,33 +44,40 @@ pub data FrameFault : Type 0 where
   AccountFault : (kept : ℕ) → (got : ℕ) → FrameFault
   Parts : (kept : ℕ) → (got : ℕ) → FrameFault
 
-abbrev pub took : Account → Took
-took x = record { account = x; replies = []; events = []; notices = [] }
+abbrev pub received : Account → Received
+received x = record { account = x; replies = []; events = []; notices = [] }
 
-abbrev pub replying : Account → List (List ClientMsg) → Took
-replying x frames = record (took x) { replies = frames }
+abbrev pub replying : Account → List (List ClientMsg) → Received
+replying x frames = record (received x) { replies = frames }
 
 -- a message that is allowed only once the client is told its session
-abbrev pub once_on : Account → ℕ → Took → Result Took FrameFault
+abbrev pub once_on : Account → ℕ → Received → Result Received FrameFault
 once_on x kind out = if is_on x.stage then Ok out else Err (Unexpected kind)
 
 -- 104, when dialled: the actor and the key are kept, the others are forgotten, and the replies are a full presence to
 -- all and a fetch; then no key is unsent
 
-abbrev pub welcomed : Account → ℕ → ℕ → Took
+abbrev pub welcomed : Account → ℕ → ℕ → Received
 welcomed x a key = replying
-    (record x { stage = Connected; session = Some (record { actor = a; key = key }); sent = []; fresh = issued x; unsent = []; others = nobody })
+    (record x {
+      stage = Connected;
+      session = Some (record { actor = a; key = key });
+      sent = [];
+      fresh = issued x;
+      unsent = [];
+      others = nobody;
+    })
     (frame_of_full x.me ∷ frame_of_fetch ∷ [])
 
-abbrev pub welcomed_as : Account → ℕ → ℕ → Option Resume → Result Took FrameFault
+abbrev pub welcomed_as : Account → ℕ → ℕ → Option Resume → Result Received FrameFault
 welcomed_as x a key None = Ok (welcomed x a key)
 welcomed_as x a key (Some s) = if s.actor == a then Ok (welcomed x a key) else Err (AccountFault s.actor a)
 
-abbrev pub room_comes : Account → ℕ → ℕ → Stage → Result Took FrameFault
-room_comes x a key Dialled = welcomed_as x a key x.session
-room_comes x a key Idle = Err (Unexpected 104)
-room_comes x a key Connected = Err (Unexpected 104)
-room_comes x a key Synced = Err (Unexpected 104)
+abbrev pub receive_room : Account → ℕ → ℕ → Stage → Result Received FrameFault
+receive_room x a key Dialled = welcomed_as x a key x.session
+receive_room x a key Idle = Err (Unexpected 104)
+receive_room x a key Connected = Err (Unexpected 104)
+receive_room x a key Synced = Err (Unexpected 104)
 
 -- 100: with a target a full presence, else a patch
 
@@ -111,7 +124,7 @@ loaded_account x seq last t = record x {
 abbrev pub reset_to : Account → List Notice
 reset_to x = Reset (view (tree_or_bare (shown x))) ∷ []
 
-abbrev pub loaded : Account → ℕ → ℕ → Nodes → Took
+abbrev pub loaded : Account → ℕ → ℕ → Nodes → Received
 loaded x seq last t = record {
   account = loaded_account x seq last t;
   replies = map (frame_of (actor x)) (beyond last (issued x));
@@ -119,25 +132,28 @@ loaded x seq last t = record {
   notices = reset_to (loaded_account x seq last t);
 }
 
-abbrev pub load_at : Account → ℕ → ℕ → Nodes → Option (ℕ × ℕ) → Result Took FrameFault
+abbrev pub load_at : Account → ℕ → ℕ → Nodes → Option (ℕ × ℕ) → Result Received FrameFault
 load_at x seq last t (Some fault) = Err (AccountFault fault.0 fault.1)
 load_at x seq last t None = Ok (loaded x seq last t)
 
-abbrev pub load : Account → ℕ → ℕ → Option Nodes → Result Took FrameFault
+abbrev pub load : Account → ℕ → ℕ → Option Nodes → Result Received FrameFault
 load x seq last None = Err NotATree
 load x seq last (Some t) = load_at x seq last t (state_fault x seq last)
 
-abbrev pub keeps_part : Account → ℕ → ℕ → List Value → Took
-keeps_part x seq last items = took (record x { parts = x.parts ++ record { seq = seq; last = last; items = items } ∷ [] })
+abbrev pub keeps_part : Account → ℕ → ℕ → List Value → Received
+keeps_part x seq last items =
+    received (record x { parts = x.parts ++ record { seq = seq; last = last; items = items } ∷ [] })
 
-abbrev pub part_comes : Account → ℕ → ℕ → List Value → Bool → Option (ℕ × ℕ) → Result Took FrameFault
-part_comes x seq last items more (Some fault) = Err (Parts fault.0 fault.1)
-part_comes x seq last items true None = Ok (keeps_part x seq last items)
-part_comes x seq last items false None = load x seq last (tree_in (parts_items x.parts ++ items))
+abbrev pub receive_part : Account → ℕ → ℕ → List Value → Bool → Option (ℕ × ℕ) → Result Received FrameFault
+receive_part x seq last items more (Some fault) = Err (Parts fault.0 fault.1)
+receive_part x seq last items true None = Ok (keeps_part x seq last items)
+receive_part x seq last items false None = load x seq last (tree_in (parts_items x.parts ++ items))
 
-abbrev pub state_comes : Account → ℕ → ℕ → List Value → Bool → Result Took FrameFault
-state_comes x seq last items more =
-    if not (is_on x.stage) then Err (Unexpected 200) else part_comes x seq last items more (other_parts x.parts seq last)
+abbrev pub receive_state : Account → ℕ → ℕ → List Value → Bool → Result Received FrameFault
+receive_state x seq last items more =
+    if not (is_on x.stage)
+    then Err (Unexpected 200)
+    else receive_part x seq last items more (other_parts x.parts seq last)
 
 -- 201, when synced and while no part is kept: its operations go onto the confirmed tree, n rises by one, and `told`
 -- becomes the greatest own clock in it
@@ -171,37 +187,38 @@ update_notices x os told t =
     then notices_of_all (tree_or_bare (shown x)) (bodies_of os)
     else reset_to (updated_account x os told t))
 
-abbrev pub update_told : Account → List Op → Nodes → Result ℕ (ℕ × ℕ) → Result Took FrameFault
+abbrev pub update_told : Account → List Op → Nodes → Result ℕ (ℕ × ℕ) → Result Received FrameFault
 update_told x os t (Err fault) = Err (AccountFault fault.0 fault.1)
-update_told x os t (Ok told) = Ok (record (took (updated_account x os told t)) { notices = update_notices x os told t })
+update_told x os t (Ok told) =
+    Ok (record (received (updated_account x os told t)) { notices = update_notices x os told t })
 
 -- a synced client has a confirmed tree
-abbrev pub update_on : Account → List Op → Option Nodes → Result Took FrameFault
+abbrev pub update_on : Account → List Op → Option Nodes → Result Received FrameFault
 update_on x os None = Err (Unexpected 201)
 update_on x os (Some t) = update_told x os t (told_by (actor x) (last_issued x) x.told os)
 
-abbrev pub update_numbered : Account → ℕ → List Op → Result Took FrameFault
+abbrev pub update_numbered : Account → ℕ → List Op → Result Received FrameFault
 update_numbered x seq os = if seq == x.n + 1 then update_on x os x.confirmed else Err (Gap (x.n + 1) seq)
 
-abbrev pub update_synced : Account → ℕ → List Op → List Part → Result Took FrameFault
+abbrev pub update_synced : Account → ℕ → List Op → List Part → Result Received FrameFault
 update_synced x seq os [] = update_numbered x seq os
 update_synced x seq os (p ∷ ps) = Err (Unexpected 201)
 
-abbrev pub update_comes : Account → ℕ → List Op → Stage → Result Took FrameFault
-update_comes x seq os Synced = update_synced x seq os x.parts
-update_comes x seq os Idle = Err (Unexpected 201)
-update_comes x seq os Dialled = Err (Unexpected 201)
-update_comes x seq os Connected = Err (Unexpected 201)
+abbrev pub receive_update : Account → ℕ → List Op → Stage → Result Received FrameFault
+receive_update x seq os Synced = update_synced x seq os x.parts
+receive_update x seq os Idle = Err (Unexpected 201)
+receive_update x seq os Dialled = Err (Unexpected 201)
+receive_update x seq os Connected = Err (Unexpected 201)
 
 -- a message, by its kind
-abbrev pub comes : Account → ServerMsg → Result Took FrameFault
-comes x (server.Presence a target patch) = once_on x 100 (took (presence_taken x a target patch))
-comes x (server.Joined a) = once_on x 101 (replying (forgets x a) (frame_of_full_to a x.me ∷ []))
-comes x (server.Left a) = once_on x 102 (took (forgets x a))
-comes x (server.Broadcast a e) = once_on x 103 (record (took x) { events = (a, e) ∷ [] })
-comes x (server.RoomState a key users) = room_comes x a key x.stage
-comes x (server.State seq last items more) = state_comes x seq last items more
-comes x (server.Update seq os) = update_comes x seq os x.stage
+abbrev pub receive : Account → ServerMsg → Result Received FrameFault
+receive x (server.Presence a target patch) = once_on x 100 (received (presence_taken x a target patch))
+receive x (server.Joined a) = once_on x 101 (replying (forgets x a) (frame_of_full_to a x.me ∷ []))
+receive x (server.Left a) = once_on x 102 (received (forgets x a))
+receive x (server.Broadcast a e) = once_on x 103 (record (received x) { events = (a, e) ∷ [] })
+receive x (server.RoomState a key users) = receive_room x a key x.stage
+receive x (server.State seq last items more) = receive_state x seq last items more
+receive x (server.Update seq os) = receive_update x seq os x.stage
 
 -- A frame, message by message. After a refusal the messages before the refused one stay taken, what they would have
 -- given is given up, and the client is lost.
@@ -210,31 +227,36 @@ pub record Refusal : Type 0 where
   pub account : Account
   pub fault : FrameFault
 
-abbrev pub refused : Account → FrameFault → Result Took Refusal
+abbrev pub refused : Account → FrameFault → Result Received Refusal
 refused x fault = Err (record { account = lost x; fault = fault })
 
 -- what was taken so far, and then this
-abbrev pub then_took : Took → Took → Took
-then_took so_far out = record {
+abbrev pub then_received : Received → Received → Received
+then_received so_far out = record {
   account = out.account;
   replies = so_far.replies ++ out.replies;
   events = so_far.events ++ out.events;
   notices = so_far.notices ++ out.notices;
 }
 
-abbrev pub took_next : Took → Result Took FrameFault → Result Took Refusal
-took_next so_far (Err fault) = refused so_far.account fault
-took_next so_far (Ok out) = Ok (then_took so_far out)
+abbrev pub or_lost : Account → Result Received FrameFault → Result Received Refusal
+or_lost x (Err fault) = refused x fault
+or_lost x (Ok out) = Ok out
 
-abbrev pub all_come : Result Took Refusal → List ServerMsg → Result Took Refusal
-all_come so_far [] = so_far
-all_come so_far (m ∷ ms) = all_come (first so_far (λ (out : Took). took_next out (comes out.account m))) ms
+abbrev pub then_more : Received → Result Received Refusal → Result Received Refusal
+then_more out (Err refusal) = Err refusal
+then_more out (Ok more) = Ok (then_received out more)
 
-abbrev pub frame_comes : Account → ServerFrame → Result Took Refusal
-frame_comes x Pong = Ok (took x)
-frame_comes x (Msgs ms) = all_come (Ok (took x)) ms
+abbrev pub receive_all : Account → List ServerMsg → Result Received Refusal
+receive_all x [] = Ok (received x)
+receive_all x (m ∷ ms) =
+    first (or_lost x (receive x m)) (λ (out : Received). then_more out (receive_all out.account ms))
+
+abbrev pub receive_frame : Account → ServerFrame → Result Received Refusal
+receive_frame x Pong = Ok (received x)
+receive_frame x (Msgs ms) = receive_all x ms
 
 -- what was read of a frame
-abbrev pub frame : Account → Result ServerFrame Reason → Result Took Refusal
+abbrev pub frame : Account → Result ServerFrame Reason → Result Received Refusal
 frame x (Err reason) = refused x (BadServerFrame reason)
-frame x (Ok f) = frame_comes x f
+frame x (Ok f) = receive_frame x f

@@ -23,7 +23,7 @@ use Rattle.room_log.specs.Log.{actor_of, clock_of, bodies_of}
 use Rattle.room_log.specs.Follows.{IsKey, most, most_actor}
 use Rattle.room_model.specs.Presence.{Others, nobody, other_full, other_patched, patched_at, forgotten}
 use Rattle.room_model.specs.Account.{Account, Batch, Part, Stage, Idle, Dialled, Connected, Synced, actor, issued, last_issued, beyond, is_on}
-use Rattle.room_model.specs.Comes as Comes
+use Rattle.room_model.specs.Receive as Receive
 use Rattle.room_model.specs.Sound.{IsValidTree, AreOwn, HasTree, AreItems, IsSound}
 use Rattle.room_laws.specs.Accounts.{IsValidServerMsg, TreesAreValid}
 use Rattle.room_laws.proofs.Batches.{beyond-append, ends_later}
@@ -72,7 +72,7 @@ others_sound x os h k = record {
   parts = h.parts;
 }
 
-shown_sound : (x : Account) (a : ℕ) (target : Option ℤ) (patch : Members) → IsSound x → a ≤ most_actor → AreSoundMembers patch → IsSound (Comes.presence_taken x a target patch)
+shown_sound : (x : Account) (a : ℕ) (target : Option ℤ) (patch : Members) → IsSound x → a ≤ most_actor → AreSoundMembers patch → IsSound (Receive.presence_taken x a target patch)
 shown_sound x a None patch h l s = others_sound x (other_patched x.others a patch) h (patched_by x.others a patch (get x.others a) refl h.presence.known l s)
 shown_sound x a (Some target) patch h l s = others_sound x (other_full x.others a patch) h (known_insert x.others a patch h.presence.known l s)
 
@@ -84,7 +84,7 @@ nobody_known a fs e = absurd (none_some fs (sym (get-empty {X = Members} nat_cmp
 connected_synced : Connected ≢ Synced
 connected_synced e = cc
 
-welcomed_sound : (x : Account) (a key : ℕ) → IsSound x → 1 ≤ a → a ≤ most_actor → IsKey key → IsSound (Comes.welcomed x a key).account
+welcomed_sound : (x : Account) (a key : ℕ) → IsSound x → 1 ≤ a → a ≤ most_actor → IsKey key → IsSound (Receive.welcomed x a key).account
 welcomed_sound x a key h m l k = record {
   room = h.room;
   session = (m, l, k);
@@ -98,14 +98,14 @@ welcomed_sound x a key h m l k = record {
   parts = h.parts;
 }
 
-abbrev TookSound : Comes.Took → Type 0
-TookSound d = IsSound d.account
+abbrev ReceivedSound : Receive.Received → Type 0
+ReceivedSound d = IsSound d.account
 
-named_sound : (x : Account) (a key : ℕ) (o : Option Resume) (out : Comes.Took) → IsSound (Comes.welcomed x a key).account → Comes.welcomed_as x a key o ≡ Ok out → IsSound out.account
-named_sound x a key None out h p = subst TookSound (ok_is (Comes.welcomed x a key) out p) h
-named_sound x a key (Some s) out h p = subst TookSound (over (s.actor == a) (Comes.AccountFault s.actor a) (Comes.welcomed x a key) out p) h
+named_sound : (x : Account) (a key : ℕ) (o : Option Resume) (out : Receive.Received) → IsSound (Receive.welcomed x a key).account → Receive.welcomed_as x a key o ≡ Ok out → IsSound out.account
+named_sound x a key None out h p = subst ReceivedSound (ok_is (Receive.welcomed x a key) out p) h
+named_sound x a key (Some s) out h p = subst ReceivedSound (over (s.actor == a) (Receive.AccountFault s.actor a) (Receive.welcomed x a key) out p) h
 
-room_sound : (x : Account) (a key : ℕ) (g : Stage) (out : Comes.Took) → IsSound (Comes.welcomed x a key).account → Comes.room_comes x a key g ≡ Ok out → IsSound out.account
+room_sound : (x : Account) (a key : ℕ) (g : Stage) (out : Receive.Received) → IsSound (Receive.welcomed x a key).account → Receive.receive_room x a key g ≡ Ok out → IsSound out.account
 room_sound x a key Dialled out h p = named_sound x a key x.session out h p
 room_sound x a key Idle out h p = cc
 room_sound x a key Connected out h p = cc
@@ -125,11 +125,11 @@ depth_append (v ∷ vs) ws m h k =
 items_append : (vs ws : List Value) → AreItems vs → AreItems ws → AreItems (vs ++ ws)
 items_append vs ws h k = record { json = json_append vs ws h.json k.json; shallow = depth_append vs ws 58 h.shallow k.shallow }
 
-parts_more : (ps : List Part) (p : Part) → Comes.parts_items (ps ++ p ∷ []) ≡ Comes.parts_items ps ++ p.items
+parts_more : (ps : List Part) (p : Part) → Receive.parts_items (ps ++ p ∷ []) ≡ Receive.parts_items ps ++ p.items
 parts_more [] p = append-nil p.items
-parts_more (q ∷ ps) p = ap (λ (vs : List Value). q.items ++ vs) (parts_more ps p) ∙ sym (append_assoc q.items (Comes.parts_items ps) p.items)
+parts_more (q ∷ ps) p = ap (λ (vs : List Value). q.items ++ vs) (parts_more ps p) ∙ sym (append_assoc q.items (Receive.parts_items ps) p.items)
 
-part_sound : (x : Account) (seq last : ℕ) (items : List Value) → IsSound x → AreItems items → IsSound (Comes.keeps_part x seq last items).account
+part_sound : (x : Account) (seq last : ℕ) (items : List Value) → IsSound x → AreItems items → IsSound (Receive.keeps_part x seq last items).account
 part_sound x seq last items h k = record {
   room = h.room;
   session = h.session;
@@ -140,7 +140,7 @@ part_sound x seq last items h k = record {
   history = h.history;
   presence = h.presence;
   events = h.events;
-  parts = subst AreItems (sym (parts_more x.parts (record { seq = seq; last = last; items = items }))) (items_append (Comes.parts_items x.parts) items h.parts k);
+  parts = subst AreItems (sym (parts_more x.parts (record { seq = seq; last = last; items = items }))) (items_append (Receive.parts_items x.parts) items h.parts k);
 }
 
 -- a state whose last part came
@@ -148,7 +148,7 @@ part_sound x seq last items h k = record {
 no_items : AreItems []
 no_items = record { json = tt; shallow = omega arith }
 
-loaded_sound : (x : Account) (seq last : ℕ) (t : Nodes) → IsSound x → IsValidTree t → seq ≤ most → x.told ≤ last → last ≤ last_issued x → IsSound (Comes.loaded_account x seq last t)
+loaded_sound : (x : Account) (seq last : ℕ) (t : Nodes) → IsSound x → IsValidTree t → seq ≤ most → x.told ≤ last → last ≤ last_issued x → IsSound (Receive.loaded_account x seq last t)
 loaded_sound x seq last t h v n l m = record {
   room = h.room;
   session = h.session;
@@ -162,13 +162,13 @@ loaded_sound x seq last t h v n l m = record {
   parts = no_items;
 }
 
-fault_at : (x : Account) (seq last : ℕ) (t : Nodes) (o : Option (ℕ × ℕ)) (out : Comes.Took) → Comes.state_fault x seq last ≡ o → IsSound x → IsValidTree t → seq ≤ most → Comes.load_at x seq last t o ≡ Ok out → IsSound out.account
+fault_at : (x : Account) (seq last : ℕ) (t : Nodes) (o : Option (ℕ × ℕ)) (out : Receive.Received) → Receive.state_fault x seq last ≡ o → IsSound x → IsValidTree t → seq ≤ most → Receive.load_at x seq last t o ≡ Ok out → IsSound out.account
 fault_at x seq last t (Some f) out q h v n p = cc
 fault_at x seq last t None out q h v n p =
     let later = second_none (nat_lt seq x.n) (x.n, seq) _ q in
     let told = second_none (nat_lt last x.told) (x.told, last) _ later.1 in
     let issues = second_none (nat_lt (last_issued x) last) (last_issued x, last) None told.1 in
-    subst TookSound (ok_is (Comes.loaded x seq last t) out p) (loaded_sound x seq last t h v n (grind (arith, nat_tests, told.0)) (grind (arith, nat_tests, issues.0)))
+    subst ReceivedSound (ok_is (Receive.loaded x seq last t) out p) (loaded_sound x seq last t h v n (grind (arith, nat_tests, told.0)) (grind (arith, nat_tests, issues.0)))
 
 -- an update
 
@@ -181,19 +181,19 @@ ops_shallow [] h = tt
 ops_shallow (o ∷ os) h = (h.0, ops_shallow os h.1)
 
 within_by : (a limit c : ℕ) (o : Op) (os : List Op) (r : ℕ) (other own : Bool) → (clock_of o == c + 1) && nat_le (clock_of o) limit ≡ own → c ≤ limit
-    → ((d : ℕ) → d ≤ limit → Comes.told_by a limit d os ≡ Ok r → r ≤ limit)
-    → cond other (Comes.told_by a limit c os) (cond own (Comes.told_by a limit (c + 1) os) (Err (c, clock_of o))) ≡ Ok r → r ≤ limit
+    → ((d : ℕ) → d ≤ limit → Receive.told_by a limit d os ≡ Ok r → r ≤ limit)
+    → cond other (Receive.told_by a limit c os) (cond own (Receive.told_by a limit (c + 1) os) (Err (c, clock_of o))) ≡ Ok r → r ≤ limit
 within_by a limit c o os r true own q l k p = k c l p
 within_by a limit c o os r false true q l k p = k (c + 1) (grind (arith, nat_tests, q)) p
 within_by a limit c o os r false false q l k p = cc
 
 -- the clock that an update tells was issued
-told_within : (a limit : ℕ) (os : List Op) (r c : ℕ) → c ≤ limit → Comes.told_by a limit c os ≡ Ok r → r ≤ limit
+told_within : (a limit : ℕ) (os : List Op) (r c : ℕ) → c ≤ limit → Receive.told_by a limit c os ≡ Ok r → r ≤ limit
 told_within a limit [] r c l p = let e : c ≡ r = cc in omega (arith, l, e)
 told_within a limit (o ∷ os) r c l p =
     within_by a limit c o os r (not (actor_of o == a)) ((clock_of o == c + 1) && nat_le (clock_of o) limit) refl l (λ d m q. told_within a limit os r d m q) p
 
-updated_sound : (x : Account) (os : List Op) (told : ℕ) (t : Nodes) → IsSound x → IsValidTree (fold t (bodies_of os)) → x.n + 1 ≤ most → x.told ≤ told → told ≤ last_issued x → IsSound (Comes.updated_account x os told t)
+updated_sound : (x : Account) (os : List Op) (told : ℕ) (t : Nodes) → IsSound x → IsValidTree (fold t (bodies_of os)) → x.n + 1 ≤ most → x.told ≤ told → told ≤ last_issued x → IsSound (Receive.updated_account x os told t)
 updated_sound x os told t h v n l m = record {
   room = h.room;
   session = h.session;
@@ -208,50 +208,50 @@ updated_sound x os told t h v n l m = record {
 }
 
 module _ (trees : TreesAreValid) where
-  load_sound : (x : Account) (seq last : ℕ) (vs : List Value) (o : Option Nodes) (out : Comes.Took) → tree_in vs ≡ o → IsSound x → AreItems vs → seq ≤ most → Comes.load x seq last o ≡ Ok out → IsSound out.account
+  load_sound : (x : Account) (seq last : ℕ) (vs : List Value) (o : Option Nodes) (out : Receive.Received) → tree_in vs ≡ o → IsSound x → AreItems vs → seq ≤ most → Receive.load x seq last o ≡ Ok out → IsSound out.account
   load_sound x seq last vs None out q h k n p = cc
-  load_sound x seq last vs (Some t) out q h k n p = fault_at x seq last t (Comes.state_fault x seq last) out refl h (trees vs t k q) n p
+  load_sound x seq last vs (Some t) out q h k n p = fault_at x seq last t (Receive.state_fault x seq last) out refl h (trees vs t k q) n p
 
-  state_sound : (x : Account) (seq last : ℕ) (items : List Value) (more : Bool) (o : Option (ℕ × ℕ)) (out : Comes.Took) → IsSound x → AreItems items → seq ≤ most → Comes.part_comes x seq last items more o ≡ Ok out → IsSound out.account
+  state_sound : (x : Account) (seq last : ℕ) (items : List Value) (more : Bool) (o : Option (ℕ × ℕ)) (out : Receive.Received) → IsSound x → AreItems items → seq ≤ most → Receive.receive_part x seq last items more o ≡ Ok out → IsSound out.account
   state_sound x seq last items more (Some f) out h k n p = cc
-  state_sound x seq last items true None out h k n p = subst TookSound (ok_is (Comes.keeps_part x seq last items) out p) (part_sound x seq last items h k)
-  state_sound x seq last items false None out h k n p = load_sound x seq last (Comes.parts_items x.parts ++ items) (tree_in (Comes.parts_items x.parts ++ items)) out refl h (items_append (Comes.parts_items x.parts) items h.parts k) n p
+  state_sound x seq last items true None out h k n p = subst ReceivedSound (ok_is (Receive.keeps_part x seq last items) out p) (part_sound x seq last items h k)
+  state_sound x seq last items false None out h k n p = load_sound x seq last (Receive.parts_items x.parts ++ items) (tree_in (Receive.parts_items x.parts ++ items)) out refl h (items_append (Receive.parts_items x.parts) items h.parts k) n p
 
-  on_sound : (x : Account) (seq last : ℕ) (items : List Value) (more b : Bool) (out : Comes.Took) → IsSound x → AreItems items → seq ≤ most
-      → cond b (Err (Comes.Unexpected 200)) (Comes.part_comes x seq last items more (Comes.other_parts x.parts seq last)) ≡ Ok out → IsSound out.account
+  on_sound : (x : Account) (seq last : ℕ) (items : List Value) (more b : Bool) (out : Receive.Received) → IsSound x → AreItems items → seq ≤ most
+      → cond b (Err (Receive.Unexpected 200)) (Receive.receive_part x seq last items more (Receive.other_parts x.parts seq last)) ≡ Ok out → IsSound out.account
   on_sound x seq last items more true out h k n p = cc
-  on_sound x seq last items more false out h k n p = state_sound x seq last items more (Comes.other_parts x.parts seq last) out h k n p
+  on_sound x seq last items more false out h k n p = state_sound x seq last items more (Receive.other_parts x.parts seq last) out h k n p
 
-  told_sound : (x : Account) (os : List Op) (t : Nodes) (r : Result ℕ (ℕ × ℕ)) (out : Comes.Took) → Comes.told_by (actor x) (last_issued x) x.told os ≡ r → IsSound x → IsValidTree t → AreSoundOps os → AreShallowOps os → x.n + 1 ≤ most
-      → Comes.update_told x os t r ≡ Ok out → IsSound out.account
+  told_sound : (x : Account) (os : List Op) (t : Nodes) (r : Result ℕ (ℕ × ℕ)) (out : Receive.Received) → Receive.told_by (actor x) (last_issued x) x.told os ≡ r → IsSound x → IsValidTree t → AreSoundOps os → AreShallowOps os → x.n + 1 ≤ most
+      → Receive.update_told x os t r ≡ Ok out → IsSound out.account
   told_sound x os t (Err f) out q h v s l n p = cc
   told_sound x os t (Ok told) out q h v s l n p =
-      subst TookSound (ok_is _ out p) (updated_sound x os told t h (valid_fold t (bodies_of os) v (record { sound = ops_sound os s; shallow = ops_shallow os l })) n
+      subst ReceivedSound (ok_is _ out p) (updated_sound x os told t h (valid_fold t (bodies_of os) v (record { sound = ops_sound os s; shallow = ops_shallow os l })) n
       (told_later (actor x) (last_issued x) os told x.told q) (told_within (actor x) (last_issued x) os told x.told (ends_later x.told (issued x) h.own.runs) q))
 
-  tree_sound : (x : Account) (os : List Op) (o : Option Nodes) (out : Comes.Took) → IsSound x → HasTree x.stage (issued x) x.batch x.history o → AreSoundOps os → AreShallowOps os → x.n + 1 ≤ most → Comes.update_on x os o ≡ Ok out → IsSound out.account
+  tree_sound : (x : Account) (os : List Op) (o : Option Nodes) (out : Receive.Received) → IsSound x → HasTree x.stage (issued x) x.batch x.history o → AreSoundOps os → AreShallowOps os → x.n + 1 ≤ most → Receive.update_on x os o ≡ Ok out → IsSound out.account
   tree_sound x os None out h v s l n p = cc
-  tree_sound x os (Some t) out h v s l n p = told_sound x os t (Comes.told_by (actor x) (last_issued x) x.told os) out refl h v s l n p
+  tree_sound x os (Some t) out h v s l n p = told_sound x os t (Receive.told_by (actor x) (last_issued x) x.told os) out refl h v s l n p
 
-  numbered_sound : (x : Account) (seq : ℕ) (os : List Op) (b : Bool) (out : Comes.Took) → (seq == x.n + 1) ≡ b → IsSound x → AreSoundOps os → AreShallowOps os → seq ≤ most → cond b (Comes.update_on x os x.confirmed) (Err (Comes.Gap (x.n + 1) seq)) ≡ Ok out → IsSound out.account
+  numbered_sound : (x : Account) (seq : ℕ) (os : List Op) (b : Bool) (out : Receive.Received) → (seq == x.n + 1) ≡ b → IsSound x → AreSoundOps os → AreShallowOps os → seq ≤ most → cond b (Receive.update_on x os x.confirmed) (Err (Receive.Gap (x.n + 1) seq)) ≡ Ok out → IsSound out.account
   numbered_sound x seq os true out q h s l n p = tree_sound x os x.confirmed out h h.tree s l (omega (arith, n, eqb-true seq (x.n + 1) q)) p
   numbered_sound x seq os false out q h s l n p = cc
 
-  parts_sound : (x : Account) (seq : ℕ) (os : List Op) (ps : List Part) (out : Comes.Took) → IsSound x → AreSoundOps os → AreShallowOps os → seq ≤ most → Comes.update_synced x seq os ps ≡ Ok out → IsSound out.account
+  parts_sound : (x : Account) (seq : ℕ) (os : List Op) (ps : List Part) (out : Receive.Received) → IsSound x → AreSoundOps os → AreShallowOps os → seq ≤ most → Receive.update_synced x seq os ps ≡ Ok out → IsSound out.account
   parts_sound x seq os [] out h s l n p = numbered_sound x seq os (seq == x.n + 1) out refl h s l n p
   parts_sound x seq os (q ∷ qs) out h s l n p = cc
 
-  update_sound : (x : Account) (seq : ℕ) (os : List Op) (g : Stage) (out : Comes.Took) → IsSound x → AreSoundOps os → AreShallowOps os → seq ≤ most → Comes.update_comes x seq os g ≡ Ok out → IsSound out.account
+  update_sound : (x : Account) (seq : ℕ) (os : List Op) (g : Stage) (out : Receive.Received) → IsSound x → AreSoundOps os → AreShallowOps os → seq ≤ most → Receive.receive_update x seq os g ≡ Ok out → IsSound out.account
   update_sound x seq os Synced out h s l n p = parts_sound x seq os x.parts out h s l n p
   update_sound x seq os Idle out h s l n p = cc
   update_sound x seq os Dialled out h s l n p = cc
   update_sound x seq os Connected out h s l n p = cc
 
-  pub comes_sound : (x : Account) (m : ServerMsg) (out : Comes.Took) → IsSound x → IsValidServerMsg m → Comes.comes x m ≡ Ok out → IsSound out.account
-  comes_sound x (server.Presence a target patch) out h m p = subst TookSound (over (is_on x.stage) (Comes.Unexpected 100) (Comes.took (Comes.presence_taken x a target patch)) out p) (shown_sound x a target patch h m.0 m.1)
-  comes_sound x (server.Joined a) out h m p = subst TookSound (over (is_on x.stage) (Comes.Unexpected 101) _ out p) (others_sound x (forgotten x.others a) h (known_remove x.others a h.presence.known))
-  comes_sound x (server.Left a) out h m p = subst TookSound (over (is_on x.stage) (Comes.Unexpected 102) _ out p) (others_sound x (forgotten x.others a) h (known_remove x.others a h.presence.known))
-  comes_sound x (server.Broadcast a e) out h m p = subst TookSound (over (is_on x.stage) (Comes.Unexpected 103) _ out p) h
-  comes_sound x (server.RoomState a key users) out h m p = room_sound x a key x.stage out (welcomed_sound x a key h m.0 m.1 m.2) p
-  comes_sound x (server.State seq last items more) out h m p = on_sound x seq last items more (not (is_on x.stage)) out h m.2 m.0 p
-  comes_sound x (server.Update seq os) out h m p = update_sound x seq os x.stage out h m.1 m.2 m.0 p
+  pub receive_sound : (x : Account) (m : ServerMsg) (out : Receive.Received) → IsSound x → IsValidServerMsg m → Receive.receive x m ≡ Ok out → IsSound out.account
+  receive_sound x (server.Presence a target patch) out h m p = subst ReceivedSound (over (is_on x.stage) (Receive.Unexpected 100) (Receive.received (Receive.presence_taken x a target patch)) out p) (shown_sound x a target patch h m.0 m.1)
+  receive_sound x (server.Joined a) out h m p = subst ReceivedSound (over (is_on x.stage) (Receive.Unexpected 101) _ out p) (others_sound x (forgotten x.others a) h (known_remove x.others a h.presence.known))
+  receive_sound x (server.Left a) out h m p = subst ReceivedSound (over (is_on x.stage) (Receive.Unexpected 102) _ out p) (others_sound x (forgotten x.others a) h (known_remove x.others a h.presence.known))
+  receive_sound x (server.Broadcast a e) out h m p = subst ReceivedSound (over (is_on x.stage) (Receive.Unexpected 103) _ out p) h
+  receive_sound x (server.RoomState a key users) out h m p = room_sound x a key x.stage out (welcomed_sound x a key h m.0 m.1 m.2) p
+  receive_sound x (server.State seq last items more) out h m p = on_sound x seq last items more (not (is_on x.stage)) out h m.2 m.0 p
+  receive_sound x (server.Update seq os) out h m p = update_sound x seq os x.stage out h m.1 m.2 m.0 p
