@@ -30,14 +30,15 @@ abbrev pub edit : ℕ → List ℕ → List ℕ
 edit i text = line (codes "edit " ++ decimal (whose i) ++ codes " " ++ text)
 
 -- turn i of a state: its lines, and the state after its draws
-record Turn : Type 0 where
+pub record Turn : Type 0 where
   pub lines : List ℕ
   pub state : ℕ
 
 abbrev pub moves_shape : ℕ → ℕ → Turn
-moves_shape i s = record
-    { lines = edit i (codes "update 1:" ++ decimal (2 + pick 3 s) ++ codes " " ++ spot (pick 1000 (drawn s)) (pick 1000 (drawn (drawn s))))
-    ; state = drawn (drawn (drawn s)) }
+moves_shape i s = record {
+  lines = edit i (codes "update 1:" ++ decimal (2 + pick 3 s) ++ codes " " ++ spot (pick 1000 (drawn s)) (pick 1000 (drawn (drawn s))));
+  state = drawn (drawn (drawn s));
+}
 
 abbrev pub pushes_layer : ℕ → ℕ → Turn
 pushes_layer i s = record { lines = edit i (codes "push 1:5 \"layer " ++ decimal i ++ codes "\""); state = s }
@@ -47,9 +48,10 @@ abbrev pub place_after : ℕ → ℕ → ℕ → ℕ
 place_after m from by = (from + 1 + by) % m
 
 abbrev pub moves_layer : ℕ → ℕ → ℕ → Turn
-moves_layer m i s = record
-    { lines = edit i (codes "move 1:5 " ++ decimal (pick m s) ++ codes " " ++ decimal (place_after m (pick m s) (pick (m - 1) (drawn s))))
-    ; state = drawn (drawn s) }
+moves_layer m i s = record {
+  lines = edit i (codes "move 1:5 " ++ decimal (pick m s) ++ codes " " ++ decimal (place_after m (pick m s) (pick (m - 1) (drawn s))));
+  state = drawn (drawn s);
+}
 
 abbrev pub sets_corner : ℕ → ℕ → Turn
 sets_corner i s = record { lines = edit i (codes "update 1:2 {\"x\":" ++ decimal (pick 1000 s) ++ codes "}"); state = drawn s }
@@ -61,11 +63,12 @@ moves i s =
     if nat_le 2 m then moves_layer m i s else sets_corner i s
 
 abbrev pub speaks : ℕ → ℕ → Turn
-speaks i s = record
-    { lines =
-        line (codes "presence " ++ decimal (whose i) ++ codes " " ++ spot (pick 1000 s) (pick 1000 (drawn s)))
-        ++ edit i (codes "set root last " ++ decimal i)
-    ; state = drawn (drawn s) }
+speaks i s = record {
+  lines =
+      line (codes "presence " ++ decimal (whose i) ++ codes " " ++ spot (pick 1000 s) (pick 1000 (drawn s)))
+      ++ edit i (codes "set root last " ++ decimal i);
+  state = drawn (drawn s);
+}
 
 abbrev pub turn : ℕ → ℕ → Turn
 turn i s =

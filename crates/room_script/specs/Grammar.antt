@@ -4,8 +4,8 @@ use Rattle.std.specs.Prelude.{ℕ, ◌+◌, true, false, ◌&&◌, if◌then◌e
 use Rattle.std.specs.Str.{bytes_eq}
 use Rattle.room_json.specs.Back.{json_in}
 use Rattle.room_ids.specs.Ids.{number_in}
-use Rattle.room_model.specs.Lines.{How, Old, New, Torn, Call, Dial, Edits, Begin, End, Undo, Redo, Pause, Resume, Clear, Presence, Event, Flush, Resend, Cut, Question, Show, Brief, ShowOthers, ShowHistory, ShowNotices, GoesUp, ComesDown, Gone, Raw, Stop, Start, Fuse, Compact, Limit, ShowServer, BriefServer, Line, OfClient, AsksClient, OfConnection, OfServer, Drain, Link}
-use Rattle.room_script.specs.Words.{word_of, rest_of, ended, word_then, read_then, most, number_from, number_then, value_to_end, object_to_end, text_to_end}
+use Rattle.room_model.specs.Lines.{How, Old, New, Torn, Call, Dial, Edits, Begin, End, Undo, Redo, Pause, Resume, Clear, Presence, Event, Flush, Resend, Cut, Question, Show, Brief, ShowOthers, ShowHistory, ShowNotices, Up, Down, Gone, Raw, Stop, Start, Fuse, Compact, Limit, ShowServer, BriefServer, Line, OfClient, AsksClient, OfConnection, OfServer, Drain, Link}
+use Rattle.room_script.specs.Words.{word_of, rest_of, ended, read_then, most, number_from, number_then, value_to_end, object_to_end, text_to_end}
 use Rattle.room_script.specs.Edits.{edit_in}
 
 -- a call of a client, by its name and what is left behind it
@@ -65,13 +65,13 @@ how_in w =
 -- fuses count from 1
 abbrev pub fuse_in : Option (List ℕ) → Option Line
 fuse_in rest = read_then (number_from 1 most)
-        (λ n r. read_then how_in (λ how q. ended (OfServer (Fuse n how)) q) r) rest
+    (λ n r. read_then how_in (λ how q. ended (OfServer (Fuse n how)) q) r) rest
 
 -- limits of updates and of sessions
 abbrev pub limit_in : Option (List ℕ) → Option Line
 limit_in rest =
     read_then (number_in 9007199254740991)
-        (λ n r. read_then (number_in 4294967295) (λ m q. ended (OfServer (Limit n m)) q) r) rest
+    (λ n r. read_then (number_in 4294967295) (λ m q. ended (OfServer (Limit n m)) q) r) rest
 
 -- the rest of a line that asks for the server
 abbrev pub is_server : Option (List ℕ) → Bool
@@ -80,8 +80,8 @@ is_server (Some bs) = bytes_eq bs (codes "server")
 
 abbrev pub line_named : List ℕ → Option (List ℕ) → Option Line
 line_named w rest =
-    if bytes_eq w (codes "up") then number_then (λ k r. ended (OfConnection k GoesUp) r) rest
-    else if bytes_eq w (codes "down") then number_then (λ k r. ended (OfConnection k ComesDown) r) rest
+    if bytes_eq w (codes "up") then number_then (λ k r. ended (OfConnection k Up) r) rest
+    else if bytes_eq w (codes "down") then number_then (λ k r. ended (OfConnection k Down) r) rest
     else if bytes_eq w (codes "gone") then number_then (λ k r. ended (OfConnection k Gone) r) rest
     else if bytes_eq w (codes "raw") then number_then (λ k r. option_map (λ t. OfConnection k (Raw t)) (text_to_end r)) rest
     else if bytes_eq w (codes "drain") then number_then (λ n r. ended (Drain n) r) rest

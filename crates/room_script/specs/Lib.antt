@@ -2,4 +2,5 @@ pub mod Edits
 pub mod Generator
 pub mod Grammar
 pub mod Live
+pub mod Samples
 pub mod Words

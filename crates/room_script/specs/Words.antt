@@ -1,6 +1,6 @@
 -- A line is cut into words at single spaces. What is left of it stands behind the space after the last word; there is none
 -- where the line has ended. Each reading takes what comes next, and says what is made of it and of what is left.
-use Rattle.std.specs.Prelude.{ℕ, Bool, true, ◌&&◌, ◌==◌, nat_le, if◌then◌else◌, List, [], ◌∷◌, Option, Some, None, option_map, option_and_then, Result, Ok, Err}
+use Rattle.std.specs.Prelude.{ℕ, Bool, true, ◌&&◌, ◌==◌, nat_le, if◌then◌else◌, List, [], ◌∷◌, Option, Some, None, option_and_then, Result, Ok, Err}
 use Rattle.std.specs.Str.{is_utf8}
 use Rattle.room_json.specs.Value.{Value, as_members}
 use Rattle.room_json.specs.Reading.{Refusal, value_of_text}
