@@ -99,12 +99,19 @@ turns count zero i s = []
 turns count (suc left) i s =
     (turn i s).lines ++ after_turn count i ++ turns count left (i + 1) (turn i s).state
 
+-- a live object at 0, 0, by its name
+abbrev pub corner : List ℕ → List ℕ
+corner name = codes "\"" ++ name ++ codes "\":{\"$object\":" ++ spot 0 0 ++ codes "}"
+
+abbrev pub corners : List ℕ
+corners = corner (codes "a") ++ codes "," ++ corner (codes "b") ++ codes "," ++ corner (codes "c")
+
 abbrev pub opening : List ℕ
 opening =
     line (codes "dial 1") ++ line (codes "drain 1000")
     ++ line (codes "dial 2") ++ line (codes "drain 1000")
     ++ line (codes "dial 3") ++ line (codes "drain 1000")
-    ++ line (codes "edit 1 set root shapes {\"$map\":{\"a\":{\"$object\":{\"x\":0,\"y\":0}},\"b\":{\"$object\":{\"x\":0,\"y\":0}},\"c\":{\"$object\":{\"x\":0,\"y\":0}}}}")
+    ++ line (codes "edit 1 set root shapes {\"$map\":{" ++ corners ++ codes "}}")
     ++ line (codes "edit 1 set root layers {\"$list\":[]}")
     ++ line (codes "flush 1") ++ line (codes "drain 1000")
 
