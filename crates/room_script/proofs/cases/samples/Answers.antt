@@ -1,0 +1,5 @@
+use Rattle.room_script.proofs.SampleCases.{samples}
+use Rattle.room_script.proofs.cases.samples.Goals as goal
+
+pub returns : goal.returns
+returns c = samples
