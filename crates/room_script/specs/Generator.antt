@@ -1,5 +1,5 @@
--- The schedule that a number and a count stand for: three clients that edit, push, move and speak in turn, a stop in the
--- middle, and an undo at the end. Numbers are drawn by a linear congruential generator.
+-- The schedule that a number and a count stand for: three clients that edit, push, move and speak in turn, a stop in
+-- the middle, and an undo at the end. Numbers are drawn by a linear congruential generator.
 use Rattle.std.specs.Prelude.{ℕ, zero, suc, ◌+◌, ◌-◌, ◌*◌, ◌/◌, ◌%◌, ◌==◌, nat_le, ◌||◌, if◌then◌else◌, Bool, List, [], ◌∷◌, ◌++◌, codes, decimal}
 
 -- the state after a draw, and the number below k that it gives
@@ -34,9 +34,13 @@ pub record Turn : Type 0 where
   pub lines : List ℕ
   pub state : ℕ
 
+-- with the next two numbers
+abbrev pub spot_from : ℕ → List ℕ
+spot_from s = spot (pick 1000 s) (pick 1000 (drawn s))
+
 abbrev pub moves_shape : ℕ → ℕ → Turn
 moves_shape i s = record {
-  lines = edit i (codes "update 1:" ++ decimal (2 + pick 3 s) ++ codes " " ++ spot (pick 1000 (drawn s)) (pick 1000 (drawn (drawn s))));
+  lines = edit i (codes "update 1:" ++ decimal (2 + pick 3 s) ++ codes " " ++ spot_from (drawn s));
   state = drawn (drawn (drawn s));
 }
 
@@ -47,14 +51,18 @@ pushes_layer i s = record { lines = edit i (codes "push 1:5 \"layer " ++ decimal
 abbrev pub place_after : ℕ → ℕ → ℕ → ℕ
 place_after m from by = (from + 1 + by) % m
 
+abbrev pub place_picked : ℕ → ℕ → ℕ
+place_picked m s = place_after m (pick m s) (pick (m - 1) (drawn s))
+
 abbrev pub moves_layer : ℕ → ℕ → ℕ → Turn
 moves_layer m i s = record {
-  lines = edit i (codes "move 1:5 " ++ decimal (pick m s) ++ codes " " ++ decimal (place_after m (pick m s) (pick (m - 1) (drawn s))));
+  lines = edit i (codes "move 1:5 " ++ decimal (pick m s) ++ codes " " ++ decimal (place_picked m s));
   state = drawn (drawn s);
 }
 
 abbrev pub sets_corner : ℕ → ℕ → Turn
-sets_corner i s = record { lines = edit i (codes "update 1:2 {\"x\":" ++ decimal (pick 1000 s) ++ codes "}"); state = drawn s }
+sets_corner i s =
+    record { lines = edit i (codes "update 1:2 {\"x\":" ++ decimal (pick 1000 s) ++ codes "}"); state = drawn s }
 
 -- where fewer than two items were pushed in the rounds before, there is nothing to move
 abbrev pub moves : ℕ → ℕ → Turn
@@ -65,7 +73,7 @@ moves i s =
 abbrev pub speaks : ℕ → ℕ → Turn
 speaks i s = record {
   lines =
-      line (codes "presence " ++ decimal (whose i) ++ codes " " ++ spot (pick 1000 s) (pick 1000 (drawn s)))
+      line (codes "presence " ++ decimal (whose i) ++ codes " " ++ spot_from s)
       ++ edit i (codes "set root last " ++ decimal i);
   state = drawn (drawn s);
 }
@@ -83,8 +91,8 @@ sent = line (codes "flush 1") ++ line (codes "flush 2") ++ line (codes "flush 3"
 
 abbrev pub stopped : List ℕ
 stopped =
-    line (codes "stop") ++ line (codes "start") ++ line (codes "dial 1") ++ line (codes "dial 2") ++ line (codes "dial 3")
-    ++ line (codes "drain 1000")
+    line (codes "stop") ++ line (codes "start") ++ line (codes "dial 1") ++ line (codes "dial 2")
+    ++ line (codes "dial 3") ++ line (codes "drain 1000")
 
 abbrev pub is_sent : ℕ → ℕ → Bool
 is_sent count i = i % 3 == 0 || i == count

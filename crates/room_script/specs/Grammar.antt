@@ -1,5 +1,5 @@
--- The lines of a schedule, and those of a script. A call of a client is spelled alike in both; in a schedule the client's
--- number stands behind the first word.
+-- The lines of a schedule, and those of a script. A call of a client is spelled alike in both; in a schedule the
+-- client's number stands behind the first word.
 use Rattle.std.specs.Prelude.{ℕ, ◌+◌, true, false, ◌&&◌, if◌then◌else◌, ◌==◌, Bool, List, [], ◌∷◌, Option, Some, None, option_map, codes, Result, Ok, Err}
 use Rattle.std.specs.Str.{bytes_eq}
 use Rattle.room_json.specs.Back.{json_in}
@@ -78,12 +78,16 @@ abbrev pub is_server : Option (List ℕ) → Bool
 is_server None = false
 is_server (Some bs) = bytes_eq bs (codes "server")
 
+-- a text on a connection
+abbrev pub raw_in : Option (List ℕ) → Option Line
+raw_in rest = number_then (λ k r. option_map (λ t. OfConnection k (Raw t)) (text_to_end r)) rest
+
 abbrev pub line_named : List ℕ → Option (List ℕ) → Option Line
 line_named w rest =
     if bytes_eq w (codes "up") then number_then (λ k r. ended (OfConnection k Up) r) rest
     else if bytes_eq w (codes "down") then number_then (λ k r. ended (OfConnection k Down) r) rest
     else if bytes_eq w (codes "gone") then number_then (λ k r. ended (OfConnection k Gone) r) rest
-    else if bytes_eq w (codes "raw") then number_then (λ k r. option_map (λ t. OfConnection k (Raw t)) (text_to_end r)) rest
+    else if bytes_eq w (codes "raw") then raw_in rest
     else if bytes_eq w (codes "drain") then number_then (λ n r. ended (Drain n) r) rest
     else if bytes_eq w (codes "link") then ended Link rest
     else if bytes_eq w (codes "stop") then ended (OfServer Stop) rest

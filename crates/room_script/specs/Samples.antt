@@ -40,7 +40,8 @@ pub record Samples : Type 0 where
   pub no_fuse : schedule_line (codes "fuse 0 torn") ≡ None
   -- a comment begins at the line's first byte; what is skipped is counted, and the last line may lack its end
   pub indented : schedule_line (codes " #") ≡ None
-  pub counted : schedule_in (codes "#" ++ 10 ∷ 10 ∷ (codes "stop" ++ 10 ∷ codes "link")) ≡ Ok ((3, OfServer Stop) ∷ (4, Link) ∷ [])
+  pub counted : schedule_in (codes "#" ++ 10 ∷ 10 ∷ (codes "stop" ++ 10 ∷ codes "link"))
+      ≡ Ok ((3, OfServer Stop) ∷ (4, Link) ∷ [])
   pub bad_line : schedule_in (codes "stop" ++ 10 ∷ (codes "#" ++ 10 ∷ (codes "halt" ++ 10 ∷ codes "stop"))) ≡ Err 3
   -- a script has no client's numbers, and its own way to take frames
   pub call : script_line (codes "flush") ≡ Some (Calls Flush)
@@ -49,8 +50,10 @@ pub record Samples : Type 0 where
   pub takes : script_line (codes "take 2 30") ≡ Some (Takes 2 30)
   pub no_number : script_line (codes "flush 1") ≡ None
   -- live values
-  pub live_map : init_of (named (codes "$map") (named (codes "a") (number 1))) ≡ AMap (part (codes "a") (Plain (number 1)) no_parts)
-  pub live_list : init_of (named (codes "$list") (list (value (number 1) no_values))) ≡ AList (init (Plain (number 1)) no_inits)
+  pub live_map : init_of (named (codes "$map") (named (codes "a") (number 1)))
+      ≡ AMap (part (codes "a") (Plain (number 1)) no_parts)
+  pub live_list : init_of (named (codes "$list") (list (value (number 1) no_values)))
+      ≡ AList (init (Plain (number 1)) no_inits)
   pub no_live_list : init_of (named (codes "$list") (number 1)) ≡ Plain (named (codes "$list") (number 1))
   pub in_a_plain_one :
       init_of (list (value (named (codes "$list") (list no_values)) no_values))

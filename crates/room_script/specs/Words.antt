@@ -1,4 +1,4 @@
--- A line is cut into words at single spaces. What is left of it stands behind the space after the last word; there is none
+-- A line is cut into words at single spaces. What is left stands behind the space after the last word; there is none
 -- where the line has ended. Each reading takes what comes next, and says what is made of it and of what is left.
 use Rattle.std.specs.Prelude.{ℕ, Bool, true, ◌&&◌, ◌==◌, nat_le, if◌then◌else◌, List, [], ◌∷◌, Option, Some, None, option_and_then, Result, Ok, Err}
 use Rattle.std.specs.Str.{is_utf8}
@@ -28,7 +28,8 @@ word_then f None = None
 word_then f (Some bs) = f (word_of bs) (rest_of bs)
 
 -- the next word, read as something
-abbrev pub read_then : {A B : Type 0} → (List ℕ → Option B) → (B → Option (List ℕ) → Option A) → Option (List ℕ) → Option A
+abbrev pub read_then : {A B : Type 0} → (List ℕ → Option B) → (B → Option (List ℕ) → Option A) → Option (List ℕ) →
+    Option A
 read_then read f rest = word_then (λ w r. option_and_then (λ x. f x r) (read w)) rest
 
 -- a number from a least to a greatest one
