@@ -4,39 +4,23 @@ use room_json::{Bytes, Copied, NoMemory};
 use std::alloc::Global;
 use std::test::Fail;
 
-/// An update with every operation.
-const EVERY: &[u8] =
-    b"\x02\x00\x00\x00\x03\x00\x00\x00\x00\x00\x00\x00\x02\x00\x00\x00\x08\x01\x01\x00\x00\x00\x01\x00\
-    \x00\x00\x00\x00\x00\x00\x02\x00\x00\x00\x01!\x02\x01\x00\x00\x00\x01\x00\x00\x00\x00\x00\x00\
-    \x00\x03\x00\x00\x00\x00\x01l\x00\x03\x00\x00\x00\x00\x02\x00\x00\x00\x01a\x00\x00\x00\x01\
-    1\x00\x00\x00\x01b\x00\x00\x00\x0b[true,null]\x04\x01\x00\
-    \x00\x00\x01\x00\x00\x00\x00\x00\x00\x00\x04\x01\x00\x00\x00\x01\x00\x00\x00\x00\x00\x00\x00\x03\
-    \x00\x00\x00\x01!\x01\x01\x00\x00\x00\x01\x00\x00\x00\x00\x00\x00\x00\x02\x00\x00\x00\x01\x00\
-    \x00\x00\x01k\x00\x00\x00\x03\x22v\x22\x05\x01\x00\x00\x00\x01\x00\x00\x00\x00\x00\x00\x00\
-    \x05\x06\x00\x00\x00\x00\x01a\x07\x01\x00\x00\x00\x01\x00\x00\x00\x00\x00\x00\x00\x06\x00\x00\
-    \x00\x00\x01m\x01\x00\x08\x01\x00\x00\x00\x01\x00\x00\x00\x00\x00\x00\x00\x07\x01\x00\x00\x00\
-    \x01\x00\x00\x00\x00\x00\x00\x00\x06\x00\x00\x00\x01r\x00\x00\x00\x00\x08{\x22x\x22:\
-    -7}";
+/// The first bytes of an update of one operation, and of a group of one join.
+const UPDATE: &[u8] = b"\x02\0\0\0\x01\0\0\0\0\0\0\0\x01\0\0\0\x01";
 
-const JOIN: &[u8] = b"\x01\x00\x00\x01\x02\x01\x02\x03\x04\x05\x06\x07\x08\x00\x00\x00\x03Ann";
+const JOIN: &[u8] = b"\x01\0\0\0\x01\0\0\0\0\0\0\0\x01";
 
-/// The update of the file after `edit 1 set root title 7`, in either format.
-const TITLE: &[u8] = b"\x02\x00\x00\x00\x01\x00\x00\x00\x00\x00\x00\x00\x01\x00\x00\x00\x01\
-    \x03\x00\x00\x00\x00\x01\x00\x00\x00\x05title\x00\x00\x00\x017";
+/// These bytes behind others.
+fn behind(alloc: Global, front: &[u8], bytes: &[u8]) -> Result<Vec<u8>, Fail> {
+    let mut all = front.to_vec(alloc)?;
+    all.extend_from_slice(bytes)?;
+    Ok(all)
+}
 
 /// What is written of the entry that is read of the bytes; nothing where none is.
 fn again(alloc: Global, bytes: &[u8], f: Format) -> Result<Option<Bytes>, NoMemory> {
     match read_entry(alloc, bytes, f)? {
         Some(entry) => Ok(Some(write_entry(alloc, &entry)?)),
         None => Ok(None),
-    }
-}
-
-/// Whether the bytes are no entry, or the bytes of one.
-fn is_once(alloc: Global, bytes: &[u8]) -> Result<bool, NoMemory> {
-    match again(alloc, bytes, Format::Two)? {
-        Some(written) => Ok(written.as_slice() == bytes),
-        None => Ok(true),
     }
 }
 
@@ -49,10 +33,23 @@ fn changed(alloc: Global, bytes: &[u8], at: usize, byte: u8) -> Result<Vec<u8>, 
     Ok(copy)
 }
 
-/// Whether this is so with each byte changed.
-fn is_once_changed(alloc: Global, bytes: &[u8], byte: u8) -> Result<bool, Fail> {
+/// Whether bytes, with each byte changed to this one, are no entry or the bytes of one.
+fn is_once(alloc: Global, bytes: &[u8], byte: u8) -> Result<bool, Fail> {
     for at in 0..bytes.len() {
-        if !is_once(alloc, changed(alloc, bytes, at, byte)?.as_slice())? {
+        let copy = changed(alloc, bytes, at, byte)?;
+        if let Some(written) = again(alloc, copy.as_slice(), Format::Two)? {
+            if written.as_slice() != copy.as_slice() {
+                return Ok(false);
+            }
+        }
+    }
+    Ok(true)
+}
+
+/// Whether no front of the bytes is an entry.
+fn is_none_cut(alloc: Global, bytes: &[u8]) -> Result<bool, Fail> {
+    for end in 0..bytes.len() {
+        if read_entry(alloc, &bytes[..end], Format::Two)?.is_some() {
             return Ok(false);
         }
     }
@@ -60,101 +57,74 @@ fn is_once_changed(alloc: Global, bytes: &[u8], byte: u8) -> Result<bool, Fail> 
 }
 
 #[test]
-fn entries_have_one_spelling(rt: HostRuntime) -> Result<(), Fail> {
+fn operations_have_one_spelling(rt: HostRuntime) -> Result<(), Fail> {
     let alloc = rt.alloc();
-    for bytes in [JOIN, TITLE, EVERY] {
-        let written = again(alloc, bytes, Format::Two)?.ok_or("no entry")?;
-        assert_eq!(rt; written.as_slice(), bytes);
-        for end in 0..bytes.len() {
-            assert!(rt; read_entry(alloc, &bytes[..end], Format::Two)?.is_none());
-        }
+    for operation in [
+        b"\x01\x01\0\0\0\x01\0\0\0\0\0\0\0\x02\0\0\0\x01!".as_slice(),
+        b"\x02\0\0\0\0\0\x01l\0",
+        b"\x03\0\0\0\0\x01\0\0\0\x05title\0\0\0\x017",
+        b"\x04\0\0\0\0\0\0\x01\0\0\0\0\x01\0\0\0\x01k\0\0\0\x03\"v\"",
+        b"\x05\0",
+        b"\x06\0\0\0\0\x01a",
+        b"\x07\0\0\0\0\0\x01m\0",
+        b"\x08\0\0\0\0\0\x01r\0\0\0\0\x02-7",
+    ] {
+        let bytes = behind(alloc, UPDATE, operation)?;
+        let written = again(alloc, bytes.as_slice(), Format::Two)?.ok_or("no entry")?;
+        assert_eq!(rt; written.as_slice(), bytes.as_slice());
+        assert!(rt; read_entry(alloc, bytes.as_slice(), Format::One)?.is_some());
+        assert!(rt; is_none_cut(alloc, bytes.as_slice())?);
         for byte in [0, 1, 255] {
-            assert!(rt; is_once_changed(alloc, bytes, byte)?);
+            assert!(rt; is_once(alloc, bytes.as_slice(), byte)?);
         }
     }
     Ok(())
 }
 
 #[test]
-fn formats_differ_by_names(rt: HostRuntime) -> Result<(), Fail> {
-    for (bytes, one, two) in [
-        (
-            b"\x01\x00\x00\x00\x01\x00\x00\x00\x00\x00\x00\x00\x01".as_slice(),
-            true,
-            false,
-        ),
-        (
-            b"\x01\x00\x00\x00\x01\x00\x00\x00\x00\x00\x00\x00\x01\x00\x00\x00\x00",
-            false,
-            true,
-        ),
-        (JOIN, false, true),
-        (TITLE, true, true),
-        // a name that is no text, another code, bytes left over
-        (
-            b"\x01\x00\x00\x00\x01\x00\x00\x00\x00\x00\x00\x00\x01\x00\x00\x00\x01\xff",
-            false,
-            false,
-        ),
-        (
-            b"\x03\x00\x00\x00\x01\x00\x00\x00\x00\x00\x00\x00\x01",
-            false,
-            false,
-        ),
-        (
-            b"\x01\x00\x00\x00\x01\x00\x00\x00\x00\x00\x00\x00\x01\x00\x00\x00\x00\x00",
-            false,
-            false,
-        ),
-        // an update without operations, another operation, a tag of 2 for what is replaced
-        (
-            b"\x02\x00\x00\x00\x01\x00\x00\x00\x00\x00\x00\x00\x01\x00\x00\x00\x00",
-            false,
-            false,
-        ),
-        (
-            b"\x02\x00\x00\x00\x01\x00\x00\x00\x00\x00\x00\x00\x01\x00\x00\x00\x01\x09\x00",
-            false,
-            false,
-        ),
-        (
-            b"\x02\x00\x00\x00\x01\x00\x00\x00\x00\x00\x00\x00\x01\x00\x00\x00\x01\
-            \x02\x00\x00\x00\x00\x00\x01l\x02",
-            false,
-            false,
-        ),
-        // fields that fall, a value with a blank, a count in the other order
-        (
-            b"\x02\x00\x00\x00\x01\x00\x00\x00\x00\x00\x00\x00\x01\x00\x00\x00\x01\
-            \x03\x00\x00\x00\x00\x02\x00\x00\x00\x01b\x00\x00\x00\x011\x00\x00\x00\x01a\x00\x00\x00\x011",
-            false,
-            false,
-        ),
-        (
-            b"\x02\x00\x00\x00\x01\x00\x00\x00\x00\x00\x00\x00\x01\x00\x00\x00\x01\
-            \x03\x00\x00\x00\x00\x01\x00\x00\x00\x01a\x00\x00\x00\x02 1",
-            false,
-            false,
-        ),
-        (
-            b"\x02\x00\x00\x00\x01\x00\x00\x00\x00\x00\x00\x00\x01\x01\x00\x00\x00\x05\x00",
-            false,
-            false,
-        ),
+fn other_operations_are_none(rt: HostRuntime) -> Result<(), Fail> {
+    for operation in [
+        // none, another code, a tag of 2 for what is replaced, a key that is no text, a byte left over
+        b"".as_slice(),
+        b"\x09\0",
+        b"\x02\0\0\0\0\0\x01l\x02",
+        b"\x06\0\0\0\0\x01\xff",
+        b"\x05\0\0",
+        // a count in the other order, fields that fall, a value with a blank
+        b"\x03\0\x01\0\0\0\0\0\0\x01a\0\0\0\x011",
+        b"\x03\0\0\0\0\x02\0\0\0\x01b\0\0\0\x011\0\0\0\x01a\0\0\0\x011",
+        b"\x03\0\0\0\0\x01\0\0\0\x01a\0\0\0\x02 1",
     ] {
-        assert_eq!(rt; read_entry(rt.alloc(), bytes, Format::One)?.is_some(), one);
-        assert_eq!(rt; read_entry(rt.alloc(), bytes, Format::Two)?.is_some(), two);
+        let bytes = behind(rt.alloc(), UPDATE, operation)?;
+        assert!(rt; read_entry(rt.alloc(), bytes.as_slice(), Format::Two)?.is_none());
+    }
+    Ok(())
+}
+
+#[test]
+fn formats_differ_by_names(rt: HostRuntime) -> Result<(), Fail> {
+    for (name, one, two) in [
+        (b"".as_slice(), true, false),
+        (b"\0\0\0\0", false, true),
+        (b"\0\0\0\x03Ann", false, true),
+        (b"\0\0\0\x01\xff", false, false),
+    ] {
+        let bytes = behind(rt.alloc(), JOIN, name)?;
+        assert_eq!(rt;
+            read_entry(rt.alloc(), bytes.as_slice(), Format::One)?.is_some(),
+            one
+        );
+        assert_eq!(rt;
+            again(rt.alloc(), bytes.as_slice(), Format::Two)?.is_some(),
+            two
+        );
     }
     Ok(())
 }
 
 /// An update with a register of so many levels.
 fn register(alloc: Global, levels: u8) -> Result<Vec<u8>, Fail> {
-    let mut bytes = Vec::new(alloc);
-    bytes.extend_from_slice(
-        b"\x02\x00\x00\x00\x01\x00\x00\x00\x00\x00\x00\x00\x01\x00\x00\x00\x01",
-    )?;
-    bytes.extend_from_slice(b"\x08\x00\x00\x00\x00\x00\x01r\x00\x00\x00\x00")?;
+    let mut bytes = behind(alloc, UPDATE, b"\x08\0\0\0\0\0\x01r\0\0\0\0")?;
     bytes.push(levels.saturating_mul(2))?;
     for _ in 0..levels {
         bytes.push(b'[')?;
@@ -180,34 +150,23 @@ fn registers_are_shallow(rt: HostRuntime) -> Result<(), Fail> {
 #[test]
 fn groups_have_entries(rt: HostRuntime) -> Result<(), Fail> {
     let alloc = rt.alloc();
-    for (bytes, is) in [
-        (b"\x00\x00\x00\x00".as_slice(), false),
-        (
-            b"\x00\x00\x00\x01\x01\x00\x00\x00\x01\x00\x00\x00\x00\x00\x00\x00\x01\x00\x00\x00\x00",
-            true,
-        ),
-        (
-            b"\x00\x00\x00\x02\x01\x00\x00\x00\x01\x00\x00\x00\x00\x00\x00\x00\x01\x00\x00\x00\x00",
-            false,
-        ),
-        (
-            b"\x00\x00\x00\x01\x01\x00\x00\x00\x01\x00\x00\x00\x00\x00\x00\x00\x01\x00\x00\x00\x00\x00",
-            false,
-        ),
-        (
-            b"\x00\x00\x00\x02\x01\x00\x00\x00\x01\x00\x00\x00\x00\x00\x00\x00\x01\x00\x00\x00\x00\
-            \x02\x00\x00\x00\x01\x00\x00\x00\x00\x00\x00\x00\x01\x00\x00\x00\x01\
-            \x03\x00\x00\x00\x00\x01\x00\x00\x00\x05title\x00\x00\x00\x017",
-            true,
-        ),
+    let join = behind(alloc, JOIN, b"\0\0\0\0")?;
+    for (count, is) in [
+        (b"\0\0\0\x01".as_slice(), true),
+        (b"\0\0\0\0", false),
+        (b"\0\0\0\x02", false),
+        (b"\x01\0\0\0", false),
     ] {
-        match read_group(alloc, bytes)? {
+        let bytes = behind(alloc, count, join.as_slice())?;
+        match read_group(alloc, bytes.as_slice())? {
             Some(group) => {
                 assert!(rt; is);
-                assert_eq!(rt; write_group(alloc, &group.copy(alloc)?)?.as_slice(), bytes);
+                let written = write_group(alloc, &group.copy(alloc)?)?;
+                assert_eq!(rt; written.as_slice(), bytes.as_slice());
             }
             None => assert!(rt; !is),
         }
     }
+    assert!(rt; read_group(alloc, b"\0\0\0\0")?.is_none());
     Ok(())
 }
