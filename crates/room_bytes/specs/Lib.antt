@@ -1,0 +1,4 @@
+pub mod Spelling
+pub mod Bounds
+pub mod Reading
+pub mod Laws
