@@ -59,8 +59,8 @@ fn operations_are_read_and_written(rt: HostRuntime) -> Result<(), Fail> {
 fn faults_name_the_first_field(rt: HostRuntime) -> Result<(), Fail> {
     let alloc = rt.alloc();
     for (members, code, field) in [
-        (&[][..], "9", Some(Field::Kind)),
-        (&[], r#""1""#, Some(Field::Kind)),
+        (&[""][..], "9", Some(Field::Kind)),
+        (&[""], r#""1""#, Some(Field::Kind)),
         (&[r#""id":"01:1","#], "5", Some(Field::Id)),
         (&[r#""id":"1:1","opId":"root","#], "5", Some(Field::OpId)),
         (&[IDS], "2", Some(Field::ParentId)),
