@@ -1,6 +1,5 @@
--- Reading from left to right. What is read of an entry counts where the entry is written as these bytes, so each value
--- has
--- one spelling.
+-- Reading from left to right. What is read of an entry counts where the entry is written as these bytes, so each
+-- value has one spelling.
 use Rattle.std.specs.Prelude.{◌≡◌, ◌==◌, ℕ, zero, suc, Bool, nat_lt, nat_le, nat_eq, is_some, if◌then◌else◌, List, []}
 use Rattle.std.specs.Prelude.{◌∷◌, length, take, drop, map, Option, Some, None, option_map, Result, Ok, Err, ◌&&◌}
 use Rattle.std.specs.Int.{Width, w32, w64, byte_len, from_be_bytes}
