@@ -1,0 +1,10 @@
+pub mod Codes
+pub mod Creating
+pub mod Edits
+pub mod Falls
+pub mod Inits
+pub mod Making
+pub mod Weighing
+pub mod Weights
+pub use Rattle.room_model.specs.Edits as ModelEdits
+pub use Rattle.room_model.specs.Init
