@@ -1,3 +1,4 @@
+//! One run through the real call.
 use super::*;
 use room_edge::{MemSink, Sink};
 use std::io::{Error, ErrorKind};

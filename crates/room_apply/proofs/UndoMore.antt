@@ -9,7 +9,7 @@ use Rattle.room_nodes.proofs.Again.{again}
 use Rattle.room_apply.proofs.AgainAll.{again_all}
 use Rattle.room_nodes.proofs.Fitting.{some_of}
 use Rattle.room_nodes.specs.declared.turns.Turn.{Turn}
-use Rattle.room_nodes.specs.declared.turns.Turn.TheVariants.{Put, Take, Fields, Key}
+use Rattle.room_nodes.specs.declared.turns.Turn.TheVariants.{Put, Cut, Fields, Key}
 use Rattle.room_ids.specs.declared.ids.NodeId.{NodeId}
 use Rattle.room_nodes.specs.declared.nodes.Node.{Node}
 
@@ -23,7 +23,7 @@ gone_places b x (Some m) n e = (omega arith, omega arith)
 
 place_again : (t : Nodes) (b : ℕ) (c : Turn) → CanTurn t c → HasPlace b c → HasPlace (places b c) (reverse t c) × (places (places b c) (reverse t c) ≡ b)
 place_again t b (Put x n) h p = (tt, omega arith)
-place_again t b (Take x) h p = let n = some_of (get t x) h.there in gone_places b x (get t x) n.0 n.1
+place_again t b (Cut x) h p = let n = some_of (get t x) h.there in gone_places b x (get t x) n.0 n.1
 place_again t b (Fields x fs) h p = (tt, refl)
 place_again t b (Key x k) h p = (tt, refl)
 
@@ -68,7 +68,7 @@ undo_back t u f a b cs ds can place is much all =
 -- more spare places serve as well
 more_place : (b d : ℕ) (c : Turn) → b ≤ d → HasPlace b c → HasPlace d c × (places b c ≤ places d c)
 more_place b d (Put x n) le h = (omega arith, omega arith)
-more_place b d (Take x) le h = (tt, omega arith)
+more_place b d (Cut x) le h = (tt, omega arith)
 more_place b d (Fields x fs) le h = (tt, le)
 more_place b d (Key x k) le h = (tt, le)
 

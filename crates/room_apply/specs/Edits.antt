@@ -3,7 +3,7 @@ use Rattle.std.specs.Prelude.{◌≡◌, ◌+◌, ◌-◌, ◌<◌, ℕ, List, [
 use Rattle.room_nodes.specs.Shape.{Nodes}
 use Rattle.room_nodes.specs.Turns.{turned, reverse, CanTurn}
 use Rattle.room_nodes.specs.declared.turns.Turn.{Turn}
-use Rattle.room_nodes.specs.declared.turns.Turn.TheVariants.{Put, Take, Fields, Key}
+use Rattle.room_nodes.specs.declared.turns.Turn.TheVariants.{Put, Cut, Fields, Key}
 
 -- a list of them, the last first
 
@@ -23,13 +23,13 @@ reverse_all t (c ∷ cs) = reverse_all t cs ++ reverse (turned_all t cs) c ∷ [
 
 abbrev pub places : ℕ → Turn → ℕ
 places s (Put x n) = s - 1
-places s (Take x) = s + 1
+places s (Cut x) = s + 1
 places s (Fields x fs) = s
 places s (Key x k) = s
 
 abbrev pub HasPlace : ℕ → Turn → Type 0
 HasPlace s (Put x n) = 0 < s
-HasPlace s (Take x) = Unit {0}
+HasPlace s (Cut x) = Unit {0}
 HasPlace s (Fields x fs) = Unit {0}
 HasPlace s (Key x k) = Unit {0}
 

@@ -34,7 +34,7 @@ pub(crate) fn cut<T: Tree>(t: &mut T, x: &NodeId, done: &mut Vec<Turn>) -> Resul
             Some(child) => at = child,
             None => {
                 let parent = parent_at(t, &at);
-                change(t, Turn::Take(at), done)?;
+                change(t, Turn::Cut(at), done)?;
                 if same_id(&at, x) {
                     return Ok(());
                 }

@@ -9,9 +9,9 @@ use room_nodes::Turn;
 use room_tree::Tree;
 
 fn taking(id: &NodeId) -> Turn
-    ensures { result ≡ Turn.Take id.now }
+    ensures { result ≡ Turn.Cut id.now }
 {
-    Turn::Take(*id)
+    Turn::Cut(*id)
 }
 
 /// Takes one change back, and answers what makes it again.
@@ -28,7 +28,7 @@ pub(crate) fn turn<T: Tree>(t: &mut T, change: Turn) -> Turn
             t.put(id, node);
             again
         },
-        Turn::Take(id) => {
+        Turn::Cut(id) => {
             let node = t.remove_leaf(&id);
             Turn::Put(id, node)
         },

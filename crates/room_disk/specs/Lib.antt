@@ -7,3 +7,4 @@ pub mod Files
 pub mod Record
 pub mod Failing
 pub mod MemDisk
+pub use Rattle.room_edge.specs.Memory

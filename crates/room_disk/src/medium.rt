@@ -39,10 +39,7 @@ fn add(entries: &mut Vec<Entry>, file: u32, act: Act)
     requires { vec_len entries.old < vec_capacity entries.old }
     ensures { entries.new.items ≡ entries.old.items ++ record { file = file; act = act } ∷ [] }
 {
-    match entries.push(Entry { file, act }) {
-        Ok(()) => (),
-        Err(_) => unreachable!(),
-    }
+    entries.push(Entry { file, act }).unwrap();
 }
 
 fn copy_part(bytes: &[u8], at: usize, into: &mut [u8])

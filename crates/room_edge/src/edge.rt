@@ -5,6 +5,7 @@ ghost use Rattle.std.specs.Io.{ReadsAtMost, WritesAtMost};
 ghost use Rattle.std.specs.Io.KnownBytes.{ReadConsumes, WriteAppends};
 ghost use Rattle.room_edge.specs.Causes.{HasCause, Rose};
 
+use room_json::NoMemory;
 use std::error::Error;
 use std::fmt;
 
@@ -39,6 +40,17 @@ impl fmt::Display for SinkFault {
 }
 
 impl Error for SinkFault {}
+
+impl From<NoMemory> for SinkFault {
+    ghost use Rattle.std.specs.Prelude.{◌≡◌};
+    ghost use Rattle.room_edge.specs.declared.edge.SinkFault.TheVariants.{Memory};
+
+    ghost from_gives = { λ _ e. e ≡ Memory };
+
+    fn from(_error: NoMemory) -> SinkFault {
+        SinkFault::Memory
+    }
+}
 
 /// Where bytes come from.
 pub trait Source {

@@ -70,10 +70,8 @@ impl Sink for MemSink {
         if self.calls.begin() {
             return Err(SinkFault::Failed);
         }
-        match append(self.alloc, &mut self.bytes, piece) {
-            Ok(()) => Ok(piece.len()),
-            Err(_) => Err(SinkFault::Memory),
-        }
+        append(self.alloc, &mut self.bytes, piece)?;
+        Ok(piece.len())
     }
 }
 
@@ -86,8 +84,6 @@ pub(crate) fn append(alloc: Global, bytes: &mut Bytes, piece: &[u8]) -> Result<(
     let mut items = mem::replace(bytes, Bytes::new(alloc)).into_vec();
     let appended = items.extend_from_slice(piece);
     *bytes = Bytes::from_vec(items);
-    match appended {
-        Ok(()) => Ok(()),
-        Err(_) => Err(NoMemory),
-    }
+    appended?;
+    Ok(())
 }

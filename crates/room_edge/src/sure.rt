@@ -101,9 +101,7 @@ impl Sink for SureSink {
         ensures ok { OnOk result (self.new ≡ self.old ++ piece.now) }
         ensures err { OnErr result (self.new ≡ self.old) }
     {
-        match append(self.alloc, &mut self.bytes, piece) {
-            Ok(()) => Ok(piece.len()),
-            Err(_) => Err(SinkFault::Memory),
-        }
+        append(self.alloc, &mut self.bytes, piece)?;
+        Ok(piece.len())
     }
 }

@@ -72,10 +72,7 @@ fn add(calls: &mut Vec<Held>, file: u32, change: FileChange)
     requires { vec_len calls.old < vec_capacity calls.old }
     ensures { calls.new.items ≡ calls.old.items ++ record { file = file; change = change } ∷ [] }
 {
-    match calls.push(Held { file, change }) {
-        Ok(()) => (),
-        Err(_) => unreachable!(),
-    }
+    calls.push(Held { file, change }).unwrap();
 }
 
 impl<D: Disk> Fused<D> {

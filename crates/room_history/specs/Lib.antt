@@ -1,1 +1,2 @@
 pub mod Places
+pub use Rattle.room_model.specs.History

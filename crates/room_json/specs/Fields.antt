@@ -11,9 +11,9 @@ abbrev pub field_of : List ℕ → Value → Option Value
 field_of name v = option_and_then (λ ms. lookup (is_at (slice_cmp nat_cmp name)) ms) (as_members v)
 
 -- one step after another, up to the first fault
-abbrev pub first : {A B E : Type 0} → Result A E → (A → Result B E) → Result B E
-first (Ok x) f = f x
-first (Err e) f = Err e
+abbrev pub and_then : {A B E : Type 0} → Result A E → (A → Result B E) → Result B E
+and_then (Ok x) f = f x
+and_then (Err e) f = Err e
 
 -- a field that must be there and be right
 abbrev pub needed : {A E : Type 0} → (Value → Option A) → E → Option Value → Result A E
@@ -27,4 +27,4 @@ allowed read e (Some v) = ok_or (option_map Some (read v)) e
 -- each of a list, up to the first fault
 abbrev pub each_in : {A E : Type 0} → (Value → Result A E) → List Value → Result (List A) E
 each_in read [] = Ok []
-each_in read (v ∷ vs) = first (read v) (λ x. first (each_in read vs) (λ xs. Ok (x ∷ xs)))
+each_in read (v ∷ vs) = and_then (read v) (λ x. and_then (each_in read vs) (λ xs. Ok (x ∷ xs)))

@@ -9,7 +9,7 @@ use Rattle.serde_json.specs.Data.{Num, unsigned, negative, float, Data, null, bo
 use Rattle.serde_json.specs.Data.{Items, no_items, item, Members, no_members, member, depth}
 use Rattle.serde_json.specs.Read.{read}
 use Rattle.room_json.specs.Value.{Value, nothing, flag, whole, text, list, members, values_of, fields_of}
-use Rattle.room_json.specs.Fields.{first}
+use Rattle.room_json.specs.Fields.{and_then}
 use Rattle.room_json.specs.Limits.{max_whole, min_whole, max_depth}
 use Rattle.room_json.specs.declared.parse.Misread.{Misread}
 use Rattle.room_json.specs.declared.parse.Misread.TheVariants.{Memory as Starved, Number as Unfit}
@@ -58,7 +58,7 @@ profile_in d = if nat_lt max_depth (depth d) then Err (too_deep (depth d)) else 
 
 -- the value that a text spells, or the first reason why it spells none
 abbrev pub value_of_text : List ℕ → Result Value Refusal
-value_of_text bytes = first (ok_or (data_in bytes) not_json) profile_in
+value_of_text bytes = and_then (ok_or (data_in bytes) not_json) profile_in
 
 -- a fault that stands for a refusal; memory may run out at any time
 abbrev pub IsFaultOf : {A : Type 0} → Result A Refusal → JsonFault → Type 0

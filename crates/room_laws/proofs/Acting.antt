@@ -3,7 +3,7 @@ use Rattle.std.proofs.Common.{◌≡◌, ℕ, cond, List, [], ◌∷◌, ◌++�
 use Rattle.std.specs.Prelude.{Option, Some, None, codes, decimal, nat_le}
 use Rattle.room_msg.specs.declared.messages.ClientMsg.{ClientMsg}
 use Rattle.room_log.specs.Log.{Entry, Update}
-use Rattle.room_log.specs.Take.{Taken, Nothing, Gap, Takes}
+use Rattle.room_log.specs.Taking.{Taken, Nothing, Gap, Takes}
 use Rattle.room_model.specs.Server
 use Rattle.room_model.specs.Server.{Outbound, Link, Served}
 

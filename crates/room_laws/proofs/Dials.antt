@@ -7,7 +7,7 @@ use Rattle.room_msg.specs.declared.messages.Resume.{Resume}
 use Rattle.room_log.specs.Log.{State, last_of, updates_of}
 use Rattle.room_model.specs.Account.{Batch, Dialled, Synced, actor_in}
 use Rattle.room_model.specs.Server.{Link, Inbound, Server, opened_at}
-use Rattle.room_model.specs.World.{room, Host, Running, Stopped, Conn, Slot, state_in, links_of, opened_host, slot}
+use Rattle.room_model.specs.World.{room_name, Host, Running, Stopped, Conn, Slot, state_in, links_of, opened_host, slot}
 use Rattle.room_model.specs.Run.{Run, all_given, IsUndisturbed}
 use Rattle.room_laws.specs.Core.{Core, core, actor}
 use Rattle.room_laws.specs.Queues.{Place}
@@ -76,7 +76,7 @@ pub record Dialed (r t : Run) (c : ℕ) (y : Slot) : Type 0 where
   pub inbounds : List Inbound
   pub new : Invariant.conn t.world (r.world.opened + 1) ≡ record { owner = Some c; inbound = inbounds; outbound = []; listens = true }
   -- a hello goes up where the server has the connection
-  pub hello : (Invariant.core_of r.world c).room ≡ room
+  pub hello : (Invariant.core_of r.world c).room ≡ room_name
       → inbounds ≡ cond (is_some (Invariant.link t.world (r.world.opened + 1))) (Invariant.hello_frame (Invariant.core_of r.world c).session ∷ []) []
   pub here : (k : ℕ) → (slot r.world c).present ≡ Some k → Invariant.conn t.world k ≡ cut (Invariant.conn r.world k)
   pub else : (j : ℕ) → (j ≡ r.world.opened + 1 → ⊥) → ((slot r.world c).present ≡ Some j → ⊥) → Invariant.conn t.world j ≡ Invariant.conn r.world j

@@ -5,7 +5,7 @@ use Rattle.std.specs.FinMap.{get, entries}
 use Rattle.std.proofs.Math.Nat.{le-max_left, le-max_right}
 use Rattle.std.proofs.lemmas.Bool.Decides.{nat_tests}
 use Rattle.room_json.specs.Value.{depth}
-use Rattle.room_json.specs.Fields.{first}
+use Rattle.room_json.specs.Fields.{and_then}
 use Rattle.room_json.specs.Profile.{AreSoundMembers}
 use Rattle.room_ids.specs.Laws.{IsNodeInRange}
 use Rattle.room_ids.specs.Position.{is_pos}
@@ -72,7 +72,7 @@ module _ (t : Nodes) (c : Clocks) (e : Edit) (m : Made) (n : Node) (there : get 
   low_says false false q edit ix h = placed_says (too_long (made_positions cs e)) refl edit ix (grind (arith, nat_tests, q)) h
 
   index_says : (r : Result (Option ℕ) EditFault) → indices (length cs) e ≡ r → ((o : Option ℕ) → r ≡ Ok o → o ≡ None) → has_edit n.kind e ≡ true
-      → first r (λ (o : Option ℕ). cond (nat_lt 50 (value_depth e)) (Err (edits.ValueTooDeep (value_depth e))) (cond (nat_lt 60 (made_depth n.kind (n.depth + 1) e)) (Err (edits.NodeTooDeep (made_depth n.kind (n.depth + 1) e))) (placed c (made_nodes n.kind e) bs (too_long (made_positions cs e))))) ≡ Ok m
+      → and_then r (λ (o : Option ℕ). cond (nat_lt 50 (value_depth e)) (Err (edits.ValueTooDeep (value_depth e))) (cond (nat_lt 60 (made_depth n.kind (n.depth + 1) e)) (Err (edits.NodeTooDeep (made_depth n.kind (n.depth + 1) e))) (placed c (made_nodes n.kind e) bs (too_long (made_positions cs e))))) ≡ Ok m
       → Makes t c e m
   index_says (Err f) q none edit h = cc
   index_says (Ok o) q none edit h = low_says (nat_lt 50 (value_depth e)) (nat_lt 60 (made_depth n.kind (n.depth + 1) e)) refl edit (q ∙ ap Ok (none o refl)) h
@@ -83,7 +83,7 @@ none_by : (b : Bool) (f : EditFault) (o : Option ℕ) → cond b (Ok None) (Err 
 none_by true f o h = sym (ok_is None o h)
 none_by false f o h = cc
 
-move_by : (b d : Bool) (f g : EditFault) (o : Option ℕ) → first (cond b (Ok None) (Err f)) (λ (p : Option ℕ). cond d (Ok None) (Err g)) ≡ Ok o → o ≡ None
+move_by : (b d : Bool) (f g : EditFault) (o : Option ℕ) → and_then (cond b (Ok None) (Err f)) (λ (p : Option ℕ). cond d (Ok None) (Err g)) ≡ Ok o → o ≡ None
 move_by true d f g o h = none_by d g o h
 move_by false d f g o h = cc
 
@@ -100,7 +100,7 @@ none_index n (edits.Clear x) o h = sym (ok_is None o h)
 
 edit_by : (t : Nodes) (c : Clocks) (e : Edit) (m : Made) (n : Node) (b : Bool) → get t (target e) ≡ Some n → has_edit n.kind e ≡ b
     → cond (not b) (Err (edits.WrongKind (target e)))
-    (first (indices (length (children t (target e))) e) (λ (o : Option ℕ). cond (nat_lt 50 (value_depth e)) (Err (edits.ValueTooDeep (value_depth e))) (cond (nat_lt 60 (made_depth n.kind (n.depth + 1) e)) (Err (edits.NodeTooDeep (made_depth n.kind (n.depth + 1) e)))
+    (and_then (indices (length (children t (target e))) e) (λ (o : Option ℕ). cond (nat_lt 50 (value_depth e)) (Err (edits.ValueTooDeep (value_depth e))) (cond (nat_lt 60 (made_depth n.kind (n.depth + 1) e)) (Err (edits.NodeTooDeep (made_depth n.kind (n.depth + 1) e)))
     (placed c (made_nodes n.kind e) (bodies n.kind (children t (target e)) (removed_child t e) c.actor c.node e) (too_long (made_positions (children t (target e)) e)))))) ≡ Ok m
     → Makes t c e m
 edit_by t c e m n true there q h = index_says t c e m n there (indices (length (children t (target e))) e) refl (none_index (length (children t (target e))) e) q h
@@ -214,7 +214,7 @@ under : (b : Bool) (f : EditFault) → ◌≡◌ {A = Result (Option ℕ) EditFa
 under true f h = refl
 under false f h = cc
 
-under_both : (b d : Bool) (f g : EditFault) → ◌≡◌ {A = Result (Option ℕ) EditFault} (first (cond b (Ok None) (Err f)) (λ (p : Option ℕ). cond d (Ok None) (Err g))) (Ok None) → (b ≡ true) × (d ≡ true)
+under_both : (b d : Bool) (f g : EditFault) → ◌≡◌ {A = Result (Option ℕ) EditFault} (and_then (cond b (Ok None) (Err f)) (λ (p : Option ℕ). cond d (Ok None) (Err g))) (Ok None) → (b ≡ true) × (d ≡ true)
 under_both true d f g h = (refl, under d g h)
 under_both false d f g h = cc
 

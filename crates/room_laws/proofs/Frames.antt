@@ -11,20 +11,20 @@ use Rattle.room_msg.specs.declared.messages.ClientMsg.{ClientMsg}
 use Rattle.room_msg.specs.declared.messages.ClientMsg.TheVariants as client
 use Rattle.room_msg.specs.declared.messages.ClientFrame.TheVariants as frame
 use Rattle.room_log.specs.Log.{Session, session_of, ops_from}
-use Rattle.room_log.specs.Take.{take}
+use Rattle.room_log.specs.Taking.{take}
 use Rattle.room_model.specs.Access.{barred}
 use Rattle.room_msg.specs.declared.reason.Reason.TheVariants as reason
 use Rattle.room_model.specs.Server
-use Rattle.room_model.specs.World.{room}
+use Rattle.room_model.specs.World.{room_name}
 use Rattle.room_laws.specs.Invariant
 use Rattle.room_laws.proofs.Ops.{all_mine}
 use Rattle.room_laws.proofs.Popped.{IsTalk}
 use Rattle.room_laws.proofs.Acting.{all_from, taken_from, taken_is}
 
 abbrev hello_of : Option Resume → Hello
-hello_of resume = record { room = room; resume = resume; name = None; «pass» = None }
+hello_of resume = record { room = room_name; resume = resume; name = None; «pass» = None }
 
-same_room : bytes_eq room room ≡ true
+same_room : bytes_eq room_name room_name ≡ true
 same_room = refl
 
 -- the frame of an attached connection
@@ -35,26 +35,26 @@ decided : (v : Server.Server) (h : Hello) → v.access ≡ None → Server.decis
 decided v h e = ap (Server.decision_of v h) e
 
 -- a hello without a session: a new one begins, or the room has no place for it
-pub joins : (v : Server.Server) (k : ℕ) (l : Server.Link) → get v.links k ≡ Some l → l.actor ≡ None → v.room ≡ room → v.access ≡ None
+pub joins : (v : Server.Server) (k : ℕ) (l : Server.Link) → get v.links k ≡ Some l → l.actor ≡ None → v.room ≡ room_name → v.access ≡ None
     → Server.serve v k (Invariant.hello_frame None)
     ≡ cond (nat_le v.limits.sessions (length v.state.sessions)) (Server.shut v k l 4406 (codes "sessions full " ++ decimal (length v.state.sessions))) (Server.join v k l (hello_of None) None)
 joins v k l e a r f =
     serve_is v k (Invariant.hello_frame None) l e
     ∙ ap (Server.messages v k l (client.Hello (hello_of None) ∷ [])) a
-    ∙ ap (λ b. cond b (Server.greet v k l (hello_of None) None) (Server.bad_frame v k l reason.Room)) (ap (bytes_eq room) r ∙ same_room)
+    ∙ ap (λ b. cond b (Server.greet v k l (hello_of None) None) (Server.bad_frame v k l reason.Room)) (ap (bytes_eq room_name) r ∙ same_room)
     ∙ ap (λ d. cond (nat_le v.limits.sessions (length v.state.sessions)) (Server.shut v k l 4406 (codes "sessions full " ++ decimal (length v.state.sessions))) (Server.admit v k l (hello_of None) d)) (decided v (hello_of None) f)
 
 has_it : (w : Resume) (o : Option Session) (x : Session) → o ≡ Some x → x.key ≡ w.key → (w.key == 0) ≡ false → Server.has_key w.key o ≡ true
 has_it w o x e f g = rw e (rw (eq-eqb x.key w.key f, g) refl)
 
 -- a hello with a session that stands: it goes on
-pub resumes : (v : Server.Server) (k : ℕ) (l : Server.Link) (w : Resume) (x : Session) → get v.links k ≡ Some l → l.actor ≡ None → v.room ≡ room → v.access ≡ None
+pub resumes : (v : Server.Server) (k : ℕ) (l : Server.Link) (w : Resume) (x : Session) → get v.links k ≡ Some l → l.actor ≡ None → v.room ≡ room_name → v.access ≡ None
     → session_of v.state.sessions w.actor ≡ Some x → x.key ≡ w.key → (w.key == 0) ≡ false
     → Server.serve v k (Invariant.hello_frame (Some w)) ≡ Server.resumed v k l w None
 resumes v k l w x e a r f g i j =
     serve_is v k (Invariant.hello_frame (Some w)) l e
     ∙ ap (Server.messages v k l (client.Hello (hello_of (Some w)) ∷ [])) a
-    ∙ ap (λ b. cond b (Server.greet v k l (hello_of (Some w)) (Some w)) (Server.bad_frame v k l reason.Room)) (ap (bytes_eq room) r ∙ same_room)
+    ∙ ap (λ b. cond b (Server.greet v k l (hello_of (Some w)) (Some w)) (Server.bad_frame v k l reason.Room)) (ap (bytes_eq room_name) r ∙ same_room)
     ∙ ap (λ b. cond b (Server.admit v k l (hello_of (Some w)) (Server.decision_of v (hello_of (Some w)) v.access)) (Server.shut v k l 4401 (codes "bad resume"))) (has_it w (session_of v.state.sessions w.actor) x g i j)
     ∙ ap (Server.admit v k l (hello_of (Some w))) (decided v (hello_of (Some w)) f)
 

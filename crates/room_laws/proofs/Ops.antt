@@ -6,7 +6,7 @@ use Rattle.std.proofs.lemmas.Bool.Decides.{nat_tests}
 use Rattle.room_nodes.specs.declared.nodes.Body.{Body}
 use Rattle.room_nodes.specs.Steps.{settle_all}
 use Rattle.room_log.specs.Log.{ops_from, op_of, bodies_of, last_of, State}
-use Rattle.room_log.specs.Take.{Nothing, Takes, rest_beyond, gap_in, take}
+use Rattle.room_log.specs.Taking.{Nothing, Takes, rest_beyond, gap_in, take}
 use Rattle.room_model.specs.Server.{foreign_in}
 
 -- a batch that the log has is dropped

@@ -9,7 +9,7 @@ use Rattle.room_msg.specs.declared.messages.ClientMsg.TheVariants as client
 use Rattle.room_msg.specs.declared.messages.ClientFrame.TheVariants as frame
 use Rattle.room_nodes.specs.Steps.{settle_all}
 use Rattle.room_log.specs.Log.{State, Session, Update, Updated, session_of, last_of, last_in, last_from, updated, ops_from}
-use Rattle.room_log.specs.Take.{Nothing, Takes, take}
+use Rattle.room_log.specs.Taking.{Nothing, Takes, take}
 use Rattle.room_msg.specs.declared.messages.Resume.{Resume}
 use Rattle.room_model.specs.Account.{actor_in}
 use Rattle.room_model.specs.Server

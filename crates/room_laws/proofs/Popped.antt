@@ -8,7 +8,7 @@ use Rattle.room_msg.specs.declared.messages.ClientMsg.TheVariants as client
 use Rattle.room_msg.specs.declared.messages.ClientFrame.TheVariants as frame
 use Rattle.room_nodes.specs.Steps.{settle_all}
 use Rattle.room_log.specs.Log.{State, ops_from, last_of}
-use Rattle.room_log.specs.Take.{Nothing, Takes, take}
+use Rattle.room_log.specs.Taking.{Nothing, Takes, take}
 use Rattle.room_model.specs.Account.{Batch, last_clock}
 use Rattle.room_model.specs.Server.{Inbound}
 use Rattle.room_model.specs.Sound.{RunsOn}

@@ -12,7 +12,7 @@ use Rattle.room_model.specs.Account as Batch
 use Rattle.room_model.specs.Server
 use Rattle.room_model.specs.Server.{Link, Inbound, Served}
 use Rattle.room_model.specs.World
-use Rattle.room_model.specs.World.{Conn, Host, Running, Fuse, state_in, links_of, room, slot}
+use Rattle.room_model.specs.World.{Conn, Host, Running, Fuse, state_in, links_of, room_name, slot}
 use Rattle.room_model.specs.Run.{Run, IsUndisturbed}
 use Rattle.room_laws.specs.Core.{actor}
 use Rattle.room_laws.specs.Queues.{InOrder}
@@ -154,13 +154,13 @@ module _ (s : State) (r : Run) (v : Server.Server) (k : ℕ) (q : Conn) (u : Inb
           let h = inbounds_of c None e o i in
           let is : u ≡ Invariant.hello_frame None = (head_is (Invariant.hello_frame h.resume) [] h.is).0 ∙ ap Invariant.hello_frame f in
           let answer = ap (Server.serve v k) is ∙ joins v k l attached e (room_is hosts) (access_is hosts) in
-          subst KeptHere (sym answer) (by_full (nat_le v.limits.sessions (length v.state.sessions)) 4406 (codes "sessions full " ++ decimal (length v.state.sessions)) (Server.join v k l (record { room = room; resume = None; name = None; «pass» = None }) None)
-          (joins_kept s r v k q u us st there first runs l (record { room = room; resume = None; name = None; «pass» = None }) attached e
+          subst KeptHere (sym answer) (by_full (nat_le v.limits.sessions (length v.state.sessions)) 4406 (codes "sessions full " ++ decimal (length v.state.sessions)) (Server.join v k l (record { room = room_name; resume = None; name = None; «pass» = None }) None)
+          (joins_kept s r v k q u us st there first runs l (record { room = room_name; resume = None; name = None; «pass» = None }) attached e
           (λ d p j.
           let g = inbounds_of d None e p j in
           ((head_is (Invariant.hello_frame g.resume) [] g.is).1, λ n. sym (g.current n) ∙ same_resume d p j ∙ f))))
         where
-          room_is : Invariant.Hosts (Running v) → v.room ≡ room
+          room_is : Invariant.Hosts (Running v) → v.room ≡ room_name
           room_is h = h.room
 
           access_is : Invariant.Hosts (Running v) → v.access ≡ None
@@ -182,7 +182,7 @@ module _ (s : State) (r : Run) (v : Server.Server) (k : ℕ) (q : Conn) (u : Inb
           let g = inbounds_of d None e p j in
           ((head_is (Invariant.hello_frame g.resume) [] g.is).1, λ n. subst (λ b. (Invariant.core_of r.world b).session ≡ Some z) (sym (not_twice d p)) session)))
         where
-          room_is : Invariant.Hosts (Running v) → v.room ≡ room
+          room_is : Invariant.Hosts (Running v) → v.room ≡ room_name
           room_is h = h.room
 
           access_is : Invariant.Hosts (Running v) → v.access ≡ None

@@ -26,7 +26,7 @@ use Rattle.room_msg.specs.declared.messages.ServerMsg.{ServerMsg}
 use Rattle.room_msg.specs.declared.messages.ServerMsg.TheVariants as server
 use Rattle.room_msg.specs.declared.reason.Reason.TheVariants as reason
 use Rattle.room_log.specs.Log.{Session, Update, Entry, Join, Updated, after, state_after, session_of, last_in, last_of, last_from, with_last, with_last_at, ops_of}
-use Rattle.room_log.specs.Take.{Taken, Nothing, Gap, Takes, take}
+use Rattle.room_log.specs.Taking.{Taken, Nothing, Gap, Takes, take}
 use Rattle.room_log.specs.Follows.{AreValidSessions, IsKey, IsNext, IsNextUpdate, IsValidLog, IsValidSession, most, most_actor}
 use Rattle.room_log.specs.Laws.{TakenFollows, ValidAfter}
 use Rattle.room_log.proofs.Following.{Decides-le, follows_exactly}

@@ -14,10 +14,10 @@ use Rattle.room_msg.specs.declared.messages.ClientMsg.{ClientMsg}
 use Rattle.room_msg.specs.declared.messages.ClientMsg.TheVariants as client
 use Rattle.room_msg.specs.declared.messages.ClientFrame.TheVariants as frame
 use Rattle.room_log.specs.Log.{State, Update, last_of, ops_of}
-use Rattle.room_log.specs.Take.{Taken, Nothing, Takes, take}
+use Rattle.room_log.specs.Taking.{Taken, Nothing, Takes, take}
 use Rattle.room_model.specs.Server
 use Rattle.room_model.specs.Server.{Outbound, Pong, Message, Closed, Link, Inbound, Served}
-use Rattle.room_model.specs.World.{Conn, Running, state_in, room}
+use Rattle.room_model.specs.World.{Conn, Running, state_in, room_name}
 use Rattle.room_model.specs.Run.{Run, run, opened, IsUndisturbed}
 use Rattle.room_laws.specs.Laws.{spares, spares_all, EachServed}
 use Rattle.room_laws.specs.Core.{actor}
@@ -85,7 +85,7 @@ spared_full true v k l text out e = spared_shut v k l text
 spared_full false v k l text out e = e
 
 abbrev hello_of : Option Resume → Hello
-hello_of resume = record { room = room; resume = resume; name = None; «pass» = None }
+hello_of resume = record { room = room_name; resume = resume; name = None; «pass» = None }
 
 spared_join : (v : Server.Server) (k : ℕ) (l : Link) (h : Hello) → spares_all (Server.join v k l h None).outs ≡ true
 spared_join v k l h = spared_each Server.has_session (Message (server.Joined (suc (length v.state.sessions)))) (entries (remove _ k)) refl
@@ -108,7 +108,7 @@ module _ (s : State) (r : Run) (v : Server.Server) (k : ℕ) (q : Conn) (u : Inb
   hosts : Invariant.Hosts (Running v)
   hosts = subst Invariant.Hosts runs st.shape.hosts
 
-  room_of : Invariant.Hosts (Running v) → v.room ≡ room
+  room_of : Invariant.Hosts (Running v) → v.room ≡ room_name
   room_of h = h.room
 
   access_of : Invariant.Hosts (Running v) → v.access ≡ None

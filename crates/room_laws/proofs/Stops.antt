@@ -218,7 +218,7 @@ module _ (s : State) (r : Run) (st : Invariant.Inv s r) where
 
   started_at : (n : State) (b : World.Burnt) → r.world.host ≡ Stopped n → Invariant.Inv s (with_step r (World.started r.world n b))
   started_at n (World.Intact f) e =
-      let v : World.World = record (r.world) { host = Running (record { state = n; room = World.room; limits = r.world.limits; access = None; links = empty }); fuse = f } in
+      let v : World.World = record (r.world) { host = Running (record { state = n; room = World.room_name; limits = r.world.limits; access = None; links = empty }); fuse = f } in
       keeps_saying s (record r { world = v }) (lines.start_line n ∷ []) (keeps_settings s r v (record {
         clients = refl;
         conns = refl;

@@ -11,7 +11,7 @@ use Rattle.room_msg.specs.declared.messages.ClientMsg.{ClientMsg}
 use Rattle.room_msg.specs.declared.messages.ClientFrame.TheVariants as frame
 use Rattle.room_msg.specs.declared.reason.Reason.TheVariants as reason
 use Rattle.room_log.specs.Log.{State, Session, Updated, Update, session_of, last_in, updated}
-use Rattle.room_log.specs.Take.{Taken, Nothing, Gap, Takes, take}
+use Rattle.room_log.specs.Taking.{Taken, Nothing, Gap, Takes, take}
 use Rattle.room_model.specs.Access.{Decision, barred, refusal_text}
 use Rattle.room_model.specs.Server
 use Rattle.room_model.specs.Server.{Link, Inbound, Served, Pong}

@@ -5,7 +5,7 @@ use Rattle.std.proofs.lemmas.Bool.{eqb-true}
 use Rattle.room_nodes.specs.declared.nodes.Op.{Op}
 use Rattle.room_nodes.specs.Steps.{settle_all}
 use Rattle.room_log.specs.Log.{State, Update, clock_of, bodies_of, last_of}
-use Rattle.room_log.specs.Take.{Takes, take, rest_beyond, gap_in, taken_rest}
+use Rattle.room_log.specs.Taking.{Takes, take, rest_beyond, gap_in, taken_rest}
 
 pub record Taking (s : State) (a : ℕ) (u : Update) : Type 0 where
   pub actor : u.actor ≡ a

@@ -55,8 +55,8 @@ module _ (keep : KeepsSound) (items : ItemsOfValid) where
       let next : Good (n + 1) s (line r l.0 l.1) = after_step n s r (World.step r.world l.0 l.1) g (step_stands keep items (n + 1) r.world l.0 l.1 (wider n r.world g.world) h.0 below key) in
       subst (λ m. Good m s (run (line r l.0 l.1) ls)) (omega arith) (lines_good (n + 1) s ls (line r l.0 l.1) h.1 more next)
 
-  room_utf8 : IsUtf8 World.room
-  room_utf8 = IsUtf8-from_ascii World.room (search rules)
+  room_utf8 : IsUtf8 World.room_name
+  room_utf8 = IsUtf8-from_ascii World.room_name (search rules)
 
   none_some : (l : Server.Link) → None ≡ Some l → ⊥
   none_some l e = cc
@@ -66,7 +66,7 @@ module _ (keep : KeepsSound) (items : ItemsOfValid) where
     world = record {
       host = record { state = h; limits = record { updates = omega arith; sessions = omega arith }; links = λ k l e. absurd (none_some l (sym (get_none k) ∙ e)) };
       limits = record { updates = omega arith; sessions = omega arith };
-      clients = λ c. subst (λ (o : Option Slot). IsSound (slot_in o).account) (sym (get_none c)) (keep.new World.room room_utf8);
+      clients = λ c. subst (λ (o : Option Slot). IsSound (slot_in o).account) (sym (get_none c)) (keep.new World.room_name room_utf8);
       conns = λ k. subst (λ (o : Option Conn). IsSoundConn (conn_in o)) (sym (get_none k)) (record { inbound = tt; outbound = tt });
       opened = omega arith;
     };

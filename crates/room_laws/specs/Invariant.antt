@@ -9,7 +9,7 @@ use Rattle.room_msg.specs.declared.messages.ClientFrame.TheVariants as frame
 use Rattle.room_log.specs.Log.{Session, State, Update, tree_after, session_of, last_of, last_after, updates_of}
 use Rattle.room_model.specs.Account.{Batch, Stage, Idle, Dialled, Synced, actor_in}
 use Rattle.room_model.specs.Server.{Outbound, Inbound, Link}
-use Rattle.room_model.specs.World.{World, Host, Running, Stopped, Conn, room, state_in, links_of, slot, account}
+use Rattle.room_model.specs.World.{World, Host, Running, Stopped, Conn, room_name, state_in, links_of, slot, account}
 use Rattle.room_model.specs.Run.{Run, issued_of, all_given, IsUndisturbed}
 use Rattle.room_laws.specs.Ledger.{Ledger, Silent, upto}
 use Rattle.room_laws.specs.Core.{Core, core, issued, actor}
@@ -47,7 +47,7 @@ pub record ListensFor (q : Conn) (c : ℕ) : Type 0 where
 
 abbrev pub Hosts : Host → Type 0
 Hosts (Running v) = record {
-  room : v.room ≡ room;
+  room : v.room ≡ room_name;
   access : v.access ≡ None;
   free : (k : ℕ) (l : Link) → get v.links k ≡ Some l → (l.decision ≡ None) × (0 < l.key);
 }
@@ -104,7 +104,7 @@ Shows s done stage n session (Some t) = record {
 
 pub record Own (s : State) (us : List Update) (last : ℕ) (x : Core) (all : List Batch)
     (done coming : List Update) : Type 0 where
-  pub room : x.room ≡ room
+  pub room : x.room ≡ room_name
   pub whole : us ≡ done ++ coming
   pub shows : Shows s done x.stage x.n x.session x.confirmed
   pub ledger : Ledger s last (actor x) done coming all (issued x) x.told
@@ -180,7 +180,7 @@ pub record Client (s : State) (us : List Update) (ss : List Session) (given : Li
 
 abbrev pub hello_frame : Option Resume → Inbound
 hello_frame resume =
-    Ok (frame.Msgs (client.Hello (record { room = room; resume = resume; name = None; «pass» = None }) ∷ []))
+    Ok (frame.Msgs (client.Hello (record { room = room_name; resume = resume; name = None; «pass» = None }) ∷ []))
 
 abbrev pub InboundAt : Type 0 → Option Resume → ℕ → List Batch → ℕ → Option ℕ → List Inbound → Type 0
 InboundAt now session tried all last None q = record {

@@ -9,7 +9,7 @@ use Rattle.room_nodes.specs.Steps.{step, settled_body, settle_all}
 use Rattle.room_nodes.proofs.Steps.{formed-step}
 use Rattle.room_steps.specs.Laws.{KeepsShallow, KeepsSound, SettlesOnce}
 use Rattle.room_log.specs.Log.{State, Update, bodies_of, clock_of, last_in, last_of, session_of}
-use Rattle.room_log.specs.Take.{Takes, rest_beyond, gap_in, taken_rest}
+use Rattle.room_log.specs.Taking.{Takes, rest_beyond, gap_in, taken_rest}
 use Rattle.room_log.specs.Follows.{IsNextUpdate, most}
 use Rattle.room_log.specs.Laws.{TakenFollows}
 use Rattle.room_log.proofs.Following.{follows_exactly}

@@ -11,7 +11,7 @@ use Rattle.room_nodes.specs.declared.nodes.Body.{Body}
 use Rattle.room_nodes.specs.Shape.{Nodes}
 use Rattle.room_nodes.specs.Steps.{step, settled_body, settle_all}
 use Rattle.room_log.specs.Log.{Session, State, Update, Updated, clock_of, bodies_of, session_of, last_in, last_of, last_from, with_last, with_last_at, after}
-use Rattle.room_log.specs.Take.{Nothing, Takes, rest_beyond, gap_in, taken_rest}
+use Rattle.room_log.specs.Taking.{Nothing, Takes, rest_beyond, gap_in, taken_rest}
 use Rattle.room_log.specs.Laws.{TakenOnce}
 
 ruleset tests = (eqb-true, eqb-false, ltb-true, ltb-false)

@@ -5,7 +5,7 @@ use Rattle.room_nodes.specs.Shallow.{AreShallowOps}
 use Rattle.room_nodes.specs.Sound.{AreSoundOps}
 use Rattle.room_log.specs.Log.{Session, State, Update, Entry, Updated, empty_state, session_of, after, state_after}
 use Rattle.room_log.specs.Follows.{IsValidState, IsNext, IsNextUpdate, IsValidLog, follows, most}
-use Rattle.room_log.specs.Take.{Nothing, Takes, take}
+use Rattle.room_log.specs.Taking.{Nothing, Takes, take}
 
 -- what was taken is taken once: the same operations again are nothing
 abbrev pub TakenOnce : Type 0

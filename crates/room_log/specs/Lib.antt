@@ -1,4 +1,4 @@
 pub mod Follows
 pub mod Laws
 pub mod Log
-pub mod Take
+pub mod Taking

@@ -11,7 +11,7 @@ use Rattle.std.specs.BTreeMap.{insert_entry, is_at}
 use Rattle.std.specs.Map.{remove_entry}
 use Rattle.std.specs.FinMap.{get}
 use Rattle.room_json.specs.Value.{Value, list, members, values_of, values_list, fields_of, fields_list, depth, merged}
-use Rattle.room_json.specs.Fields.{first}
+use Rattle.room_json.specs.Fields.{and_then}
 use Rattle.room_ids.specs.Position.{first as first_position, after as after_position, before as before_position, between as between_positions}
 use Rattle.room_ids.specs.declared.ids.NodeId.{NodeId}
 use Rattle.room_nodes.specs.declared.nodes.Node.{Node}
@@ -97,7 +97,7 @@ below i n = if nat_lt i n then Ok None else Err (BadIndex i n)
 abbrev pub indices : ℕ → Edit → Result (Option ℕ) EditFault
 indices n (Insert x i v) = if nat_le i n then Ok None else Err (BadIndex i n)
 indices n (Put x i v) = below i n
-indices n (Move x f t) = first (below f n) (λ (o : Option ℕ). below t n)
+indices n (Move x f t) = and_then (below f n) (λ (o : Option ℕ). below t n)
 indices n (Take x i) = below i n
 indices n e = Ok None
 
@@ -256,7 +256,7 @@ abbrev pub make_of : Nodes → Clocks → Edit → Node → Result Made EditFaul
 make_of t c e n =
     let cs = children t (target e) in
     if not (has_edit n.kind e) then Err (WrongKind (target e)) else
-    first (indices (length cs) e) (λ (o : Option ℕ).
+    and_then (indices (length cs) e) (λ (o : Option ℕ).
     if nat_lt 50 (value_depth e) then Err (ValueTooDeep (value_depth e)) else (
     if nat_lt 60 (made_depth n.kind (n.depth + 1) e) then Err (NodeTooDeep (made_depth n.kind (n.depth + 1) e)) else
     placed c (made_nodes n.kind e) (bodies n.kind cs (removed_child t e) c.actor c.node e)

@@ -7,7 +7,7 @@
 -- what it says of the account agrees with what is kept (`AccountFault`).
 use Rattle.std.specs.Prelude.{ℕ, ◌+◌, ◌==◌, ℤ, Bool, true, false, ◌&&◌, ◌||◌, not, if◌then◌else◌, nat_lt, nat_le, List, [], ◌∷◌, ◌++◌, map, Option, Some, None, Result, Ok, Err}
 use Rattle.room_json.specs.Value.{Value}
-use Rattle.room_json.specs.Fields.{first}
+use Rattle.room_json.specs.Fields.{and_then}
 use Rattle.room_json.specs.declared.tree.Json.{Json}
 use Rattle.room_nodes.specs.declared.nodes.Op.{Op}
 use Rattle.room_nodes.specs.Shape.{Nodes}
@@ -250,7 +250,7 @@ then_more out (Ok more) = Ok (then_received out more)
 abbrev pub receive_all : Account → List ServerMsg → Result Received Refusal
 receive_all x [] = Ok (received x)
 receive_all x (m ∷ ms) =
-    first (or_lost x (receive x m)) (λ (out : Received). then_more out (receive_all out.account ms))
+    and_then (or_lost x (receive x m)) (λ (out : Received). then_more out (receive_all out.account ms))
 
 abbrev pub receive_frame : Account → ServerFrame → Result Received Refusal
 receive_frame x Pong = Ok (received x)

@@ -22,7 +22,7 @@ use Rattle.room_msg.specs.declared.messages.ClientFrame.TheVariants.{Ping}
 use Rattle.room_msg.specs.declared.messages.ServerMsg.TheVariants as server
 use Rattle.room_msg.specs.declared.reason.Reason.TheVariants as reason
 use Rattle.room_log.specs.Log.{State, Entry, Updated, Update as TakenUpdate, op_of, ops_of, updated}
-use Rattle.room_log.specs.Take.{Nothing, Gap, Takes, take}
+use Rattle.room_log.specs.Taking.{Nothing, Gap, Takes, take}
 use Rattle.room_model.specs.Init.{Init, Plain, AnObject, AMap, AList, no_parts, part, no_inits, init, creates, made_id}
 use Rattle.room_model.specs.Edits.{Clocks, Edit, NoNode, WrongKind, Push, target, make_at, make_of, inserted_key, moved_key}
 use Rattle.room_nodes.specs.Reversal.{creation, key_restored, old_fields, old_update, gone_or}

@@ -30,7 +30,7 @@ use Rattle.room_msg.specs.declared.messages.ServerMsg.TheVariants as server
 use Rattle.room_msg.specs.declared.reason.Reason.{Reason}
 use Rattle.room_msg.specs.declared.reason.Reason.TheVariants as reason
 use Rattle.room_log.specs.Log.{Session, State, Update, Entry, Join, Updated, actor_of, ops_of, session_of, last_of, name_in, joined, updated}
-use Rattle.room_log.specs.Take.{Taken, Nothing, Gap, Takes, take}
+use Rattle.room_log.specs.Taking.{Taken, Nothing, Gap, Takes, take}
 use Rattle.room_model.specs.Access.{Access, Decision, decide, group_of, barred, refusal_text}
 
 -- what is outbound on a connection: a message, the answer to a ping, or a close with its code and text

@@ -58,8 +58,8 @@ pub record World : Type 0 where
   pub conns : FinMap nat_cmp Conn
   pub opened : ℕ  -- how many connections were opened
 
-abbrev pub room : List ℕ
-room = codes "room"
+abbrev pub room_name : List ℕ
+room_name = codes "room"
 
 abbrev pub state_in : Host → State
 state_in (Running v) = v.state
@@ -83,7 +83,7 @@ saying w ls = record (quiet w) { lines = ls }
 -- clients
 
 abbrev pub new_slot : Slot
-new_slot = record { account = new_account room; present = None; noticed = [] }
+new_slot = record { account = new_account room_name; present = None; noticed = [] }
 
 -- a client that was not heard of yet is a new one; it is there once something changes it
 
@@ -475,7 +475,7 @@ stop w (Stopped s) = w
 abbrev pub started : World → State → Burnt → Stepped
 started w s (Intact fuse) = saying
     (record w {
-      host = Running (record { state = s; room = room; limits = w.limits; access = None; links = empty });
+      host = Running (record { state = s; room = room_name; limits = w.limits; access = None; links = empty });
       fuse = fuse;
     })
     (Lines.start_line s ∷ [])
@@ -543,7 +543,7 @@ first_limits = record { updates = 1000000000000; sessions = 1000000 }
 -- a recovered server, and nobody there
 abbrev pub opening : State → World
 opening s = record {
-  host = Running (record { state = s; room = room; limits = first_limits; access = None; links = empty });
+  host = Running (record { state = s; room = room_name; limits = first_limits; access = None; links = empty });
   limits = first_limits;
   fuse = None;
   clients = empty;

@@ -4,7 +4,7 @@ use Rattle.std.specs.Prelude.{All}
 use Rattle.std.specs.Str.{bytes_eq}
 use Rattle.room_json.proofs.TextsAreUtf8.{text_spells}
 use Rattle.room_json.proofs.Values.{values_list-values_of}
-use Rattle.room_json.specs.Fields.{first, each_in}
+use Rattle.room_json.specs.Fields.{and_then, each_in}
 use Rattle.room_json.specs.Reading.{value_of_text}
 use Rattle.room_json.specs.Value.{Value, depth, list, values_of, text_of}
 use Rattle.room_nodes.specs.declared.nodes.Op.{Op}
@@ -53,7 +53,7 @@ not_pong (server.State seq last items more) = refl
 not_pong (server.Update seq ops) = refl
 
 -- a message alone is an object
-alone : (m : ServerMsg) → server_msgs_in (server_out m) ≡ first (server_in (server_out m)) (λ m. Ok (m ∷ []))
+alone : (m : ServerMsg) → server_msgs_in (server_out m) ≡ and_then (server_in (server_out m)) (λ m. Ok (m ∷ []))
 alone (server.Presence actor target patch) = refl
 alone (server.Joined actor) = refl
 alone (server.Left actor) = refl

@@ -6,7 +6,7 @@ use Rattle.std.specs.BTreeMap.{insert_entry}
 use Rattle.std.specs.Cmp.Lexicographic.{slice_cmp}
 use Rattle.std.specs.Ordering.{nat_cmp, match_ordering}
 use Rattle.serde_json.specs.Data as read
-use Rattle.room_json.specs.Fields.{first}
+use Rattle.room_json.specs.Fields.{and_then}
 use Rattle.room_json.specs.Reading.{Refusal, not_json, too_deep, bad_number, value_in, items_in, members_into, whole_in, data_in, profile_in, value_of_text}
 use Rattle.room_msg.specs.Frame.{frame_value_in, refused}
 use Rattle.room_json.specs.Value.{Value, depth, values_depth, fields_depth, values_of, fields_of, nothing, flag, whole, text, list, members}
@@ -85,7 +85,7 @@ by_depth false d v t e =
     let h : read.depth d ≤ 60 = grind (arith, nat_tests, t) in
     omega (arith, h, value_depth d v (ok_some (value_in d) v e))
 
-by_data : (o : Option read.Data) (v : Value) → first (ok_or o not_json) profile_in ≡ Ok v → depth v ≤ 60
+by_data : (o : Option read.Data) (v : Value) → and_then (ok_or o not_json) profile_in ≡ Ok v → depth v ≤ 60
 by_data None v e = cc
 by_data (Some d) v e = by_depth (nat_lt 60 (read.depth d)) d v refl e
 

@@ -1,7 +1,7 @@
 -- Frames as texts.
 use Rattle.std.specs.Prelude.{ℕ, nat_lt, length, List, codes, ok_or, Result, Ok, Err, if◌then◌else◌}
 use Rattle.std.specs.Str.{bytes_eq}
-use Rattle.room_json.specs.Fields.{first, each_in}
+use Rattle.room_json.specs.Fields.{and_then, each_in}
 use Rattle.room_json.specs.Reading.{Refusal, not_json, too_deep, bad_number, value_of_text}
 use Rattle.room_json.specs.Value.{Value, as_list}
 use Rattle.room_json.specs.declared.reading.JsonFault.{JsonFault}
@@ -38,17 +38,17 @@ abbrev pub frame_value_in : List ℕ → Result Value Reason
 frame_value_in bytes = refused (value_of_text bytes)
 
 abbrev pub client_msgs_in : Value → Result ClientFrame Reason
-client_msgs_in v = first (ok_or (as_list v) NoList) (λ vs. first (each_in client_in vs) (λ ms. Ok (client.Msgs ms)))
+client_msgs_in v = and_then (ok_or (as_list v) NoList) (λ vs. and_then (each_in client_in vs) (λ ms. Ok (client.Msgs ms)))
 
 -- what a client's frame holds, or the first reason why it is refused
 abbrev pub client_frame_in : List ℕ → Result ClientFrame Reason
 client_frame_in bytes =
     if nat_lt 1048576 (length bytes) then Err Size else (
     if bytes_eq bytes (codes "ping") then Ok client.Ping else
-    first (frame_value_in bytes) client_msgs_in)
+    and_then (frame_value_in bytes) client_msgs_in)
 
 -- what a server's frame holds, or the first reason why it is refused
 abbrev pub server_frame_in : List ℕ → Result ServerFrame Reason
 server_frame_in bytes =
     if bytes_eq bytes (codes "pong") then Ok server.Pong else
-    first (frame_value_in bytes) (λ v. first (server_msgs_in v) (λ ms. Ok (server.Msgs ms)))
+    and_then (frame_value_in bytes) (λ v. and_then (server_msgs_in v) (λ ms. Ok (server.Msgs ms)))

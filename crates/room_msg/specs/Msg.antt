@@ -4,7 +4,7 @@ use Rattle.std.specs.Prelude.{◌≡◌, ⊤, ℕ, ℤ, pos, negsuc, int_le, nat
 use Rattle.std.specs.Prelude.{length, List, [], ◌∷◌, codes}
 use Rattle.std.specs.Prelude.{Option, Some, None, option_and_then, option_map, Result, Ok, Err}
 use Rattle.room_json.specs.Back.{json_in}
-use Rattle.room_json.specs.Fields.{field_of, first, needed, allowed, each_in}
+use Rattle.room_json.specs.Fields.{field_of, and_then, needed, allowed, each_in}
 use Rattle.room_json.specs.Value.{Value, members, list, values_list, as_members, as_text, as_whole, as_list, as_flag}
 use Rattle.room_nodes.specs.declared.nodes.Op.{Op}
 use Rattle.room_wire.specs.Wire.{op_in, name_of}
@@ -79,7 +79,7 @@ abbrev pub op_at : Value → Result Op Reason
 op_at v = reason_of (op_in v)
 
 abbrev pub ops_at : Value → Result (List Op) Reason
-ops_at v = first (at as_list (codes "ops") v) (each_in op_at)
+ops_at v = and_then (at as_list (codes "ops") v) (each_in op_at)
 
 -- what a client sends
 
@@ -100,23 +100,23 @@ as_client_code v = option_and_then client_code_in (as_whole v)
 
 abbrev pub hello_in : Value → Result ClientMsg Reason
 hello_in v =
-    first (at as_text (codes "room") v) (λ room.
-    first (maybe_at as_resume (codes "resume") v) (λ resume.
-    first (maybe_at as_name (codes "name") v) (λ name.
-    first (maybe_at as_text (codes "pass") v) (λ word.
+    and_then (at as_text (codes "room") v) (λ room.
+    and_then (maybe_at as_resume (codes "resume") v) (λ resume.
+    and_then (maybe_at as_name (codes "name") v) (λ name.
+    and_then (maybe_at as_text (codes "pass") v) (λ word.
     Ok (client.Hello (record { room = room; resume = resume; name = name; «pass» = word }))))))
 
 abbrev pub presence_in : Value → Result ClientMsg Reason
 presence_in v =
-    first (at as_members (codes "data") v) (λ patch.
-    first (maybe_at as_target (codes "targetActor") v) (λ target.
+    and_then (at as_members (codes "data") v) (λ patch.
+    and_then (maybe_at as_target (codes "targetActor") v) (λ target.
     Ok (client.Presence target patch)))
 
 abbrev pub broadcast_in : Value → Result ClientMsg Reason
-broadcast_in v = first (at Some (codes "event") v) (λ event. Ok (client.Broadcast (json_in event)))
+broadcast_in v = and_then (at Some (codes "event") v) (λ event. Ok (client.Broadcast (json_in event)))
 
 abbrev pub update_in : Value → Result ClientMsg Reason
-update_in v = first (ops_at v) (λ ops. Ok (client.Update ops))
+update_in v = and_then (ops_at v) (λ ops. Ok (client.Update ops))
 
 abbrev pub coded_client_in : ClientCode → Value → Result ClientMsg Reason
 coded_client_in to_server.Hello v = hello_in v
@@ -126,7 +126,7 @@ coded_client_in to_server.Fetch v = Ok client.Fetch
 coded_client_in to_server.Update v = update_in v
 
 abbrev pub client_in : Value → Result ClientMsg Reason
-client_in v = first (needed as_client_code Kind (field_of (codes "type") v)) (λ code. coded_client_in code v)
+client_in v = and_then (needed as_client_code Kind (field_of (codes "type") v)) (λ code. coded_client_in code v)
 
 -- what a server sends
 
@@ -149,28 +149,28 @@ as_server_code v = option_and_then server_code_in (as_whole v)
 
 abbrev pub seen_in : Value → Result ServerMsg Reason
 seen_in v =
-    first (at as_actor (codes "actor") v) (λ actor.
-    first (at as_members (codes "data") v) (λ patch.
-    first (maybe_at as_target (codes "targetActor") v) (λ target.
+    and_then (at as_actor (codes "actor") v) (λ actor.
+    and_then (at as_members (codes "data") v) (λ patch.
+    and_then (maybe_at as_target (codes "targetActor") v) (λ target.
     Ok (server.Presence actor target patch))))
 
 abbrev pub joined_in : Value → Result ServerMsg Reason
-joined_in v = first (at as_actor (codes "actor") v) (λ actor. Ok (server.Joined actor))
+joined_in v = and_then (at as_actor (codes "actor") v) (λ actor. Ok (server.Joined actor))
 
 abbrev pub left_in : Value → Result ServerMsg Reason
-left_in v = first (at as_actor (codes "actor") v) (λ actor. Ok (server.Left actor))
+left_in v = and_then (at as_actor (codes "actor") v) (λ actor. Ok (server.Left actor))
 
 abbrev pub heard_in : Value → Result ServerMsg Reason
 heard_in v =
-    first (at as_actor (codes "actor") v) (λ actor.
-    first (at Some (codes "event") v) (λ event.
+    and_then (at as_actor (codes "actor") v) (λ actor.
+    and_then (at Some (codes "event") v) (λ event.
     Ok (server.Broadcast actor (json_in event))))
 
 abbrev pub room_in : Value → Result ServerMsg Reason
 room_in v =
-    first (at as_maker (codes "actor") v) (λ actor.
-    first (at as_key (codes "key") v) (λ key.
-    first (at as_users (codes "users") v) (λ users.
+    and_then (at as_maker (codes "actor") v) (λ actor.
+    and_then (at as_key (codes "key") v) (λ key.
+    and_then (at as_users (codes "users") v) (λ users.
     Ok (server.RoomState actor key users))))
 
 -- left out where no part follows
@@ -180,16 +180,16 @@ or_false (Some b) = b
 
 abbrev pub state_in : Value → Result ServerMsg Reason
 state_in v =
-    first (at as_count (codes "seq") v) (λ seq.
-    first (at as_count (codes "last") v) (λ last.
-    first (at as_list (codes "items") v) (λ items.
-    first (maybe_at as_flag (codes "more") v) (λ more.
+    and_then (at as_count (codes "seq") v) (λ seq.
+    and_then (at as_count (codes "last") v) (λ last.
+    and_then (at as_list (codes "items") v) (λ items.
+    and_then (maybe_at as_flag (codes "more") v) (λ more.
     Ok (server.State seq last items (or_false more))))))
 
 abbrev pub updated_in : Value → Result ServerMsg Reason
 updated_in v =
-    first (at as_count (codes "seq") v) (λ seq.
-    first (ops_at v) (λ ops.
+    and_then (at as_count (codes "seq") v) (λ seq.
+    and_then (ops_at v) (λ ops.
     Ok (server.Update seq ops)))
 
 abbrev pub coded_server_in : ServerCode → Value → Result ServerMsg Reason
@@ -202,11 +202,11 @@ coded_server_in to_client.State v = state_in v
 coded_server_in to_client.Update v = updated_in v
 
 abbrev pub server_in : Value → Result ServerMsg Reason
-server_in v = first (needed as_server_code Kind (field_of (codes "type") v)) (λ code. coded_server_in code v)
+server_in v = and_then (needed as_server_code Kind (field_of (codes "type") v)) (λ code. coded_server_in code v)
 
 -- one message, or a list of them
 abbrev pub server_msgs_in : Value → Result (List ServerMsg) Reason
-server_msgs_in (members fs) = first (server_in (members fs)) (λ m. Ok (m ∷ []))
+server_msgs_in (members fs) = and_then (server_in (members fs)) (λ m. Ok (m ∷ []))
 server_msgs_in (list vs) = each_in server_in (values_list vs)
 server_msgs_in _ = Err NoList
 

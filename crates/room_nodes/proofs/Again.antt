@@ -21,7 +21,7 @@ use Rattle.room_nodes.specs.declared.nodes.Node.{Node}
 use Rattle.room_nodes.specs.declared.nodes.Kind.{Kind}
 use Rattle.room_nodes.specs.declared.nodes.Kind.TheVariants.{Object, List as Listed, Map as Mapped, Register}
 use Rattle.room_nodes.specs.declared.turns.Turn.{Turn}
-use Rattle.room_nodes.specs.declared.turns.Turn.TheVariants.{Put, Take, Fields, Key}
+use Rattle.room_nodes.specs.declared.turns.Turn.TheVariants.{Put, Cut, Fields, Key}
 use Rattle.room_json.specs.Value.{Value}
 
 pub record IsAgain (t : Nodes) (c : Turn) : Type 0 where
@@ -96,7 +96,7 @@ module _ (t : Nodes) (f : IsFormed t) (x : NodeId) where
   leaf_removed : IsLeaf t x → remove t x ≡ removed t x
   leaf_removed leaf = walk_end t t x leaf.made f f leaf x (record { part = λ q. inl refl; top = leaf.there; here = leaf.there; below = below_self t x })
 
-  again_here : IsLeaf t x → IsAgain t (Take x)
+  again_here : IsLeaf t x → IsAgain t (Cut x)
   again_here leaf =
       let n = some_of (get t x) leaf.there in
       let is : put_of x (get t x) ≡ Put x n.0 = ap (put_of x) n.1 in
@@ -169,6 +169,6 @@ module _ (t : Nodes) (f : IsFormed t) (x : NodeId) where
 
 pub again : (t : Nodes) → IsFormed t → (c : Turn) → CanTurn t c → IsAgain t c
 again t f (Put x n) h = again_gone t f x n h
-again t f (Take x) h = again_here t f x h
+again t f (Cut x) h = again_here t f x h
 again t f (Fields x fs) h = again_fields t f x fs h
 again t f (Key x k) h = again_key t f x k h

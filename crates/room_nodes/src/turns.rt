@@ -9,7 +9,7 @@ pub enum Turn {
     /// The node goes in at the id.
     Put(NodeId, Node),
     /// The leaf at the id goes out.
-    Take(NodeId),
+    Cut(NodeId),
     /// The object at the id has these fields.
     Fields(NodeId, Members),
     /// The child of a list at the id has this key.

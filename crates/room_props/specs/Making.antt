@@ -1,6 +1,6 @@
 -- What an edit makes, once its node is found.
 use Rattle.std.specs.Prelude.{◌+◌, ℕ, not, if◌then◌else◌, List, [], ◌∷◌, length, Option, None, Result, Err}
-use Rattle.room_json.specs.Fields.{first}
+use Rattle.room_json.specs.Fields.{and_then}
 use Rattle.room_json.specs.Value.{Value, depth}
 use Rattle.room_ids.specs.declared.ids.NodeId.{NodeId}
 use Rattle.room_nodes.specs.declared.nodes.Kind.{Kind}
@@ -25,7 +25,7 @@ Kids = List (List ℕ × NodeId)
 abbrev pub made_on : Kind → ℕ → Clocks → Kids → Option NodeId → Edit → Outcome
 made_on kind d c cs child e =
     if not (has_edit kind e) then Err (model.WrongKind (target e)) else
-    first (indices (length cs) e) (λ (o : Option ℕ).
+    and_then (indices (length cs) e) (λ (o : Option ℕ).
     checked (value_depth e) (made_depth kind (d + 1) e)
     (placed c (made_nodes kind e) (bodies kind cs child c.actor c.node e) (too_long (made_positions cs e))))
 

@@ -2,3 +2,9 @@ pub mod Copying
 pub mod Nearest
 pub mod Settlement
 pub mod Skipped
+pub use Rattle.room_ids.specs.Order
+pub use Rattle.room_ids.specs.Position
+pub use Rattle.room_nodes.specs.Primitives
+pub use Rattle.room_nodes.specs.Shape
+pub use Rattle.room_nodes.specs.Sound
+pub use Rattle.room_nodes.specs.Steps

@@ -64,10 +64,7 @@ fn insert_at(entries: &mut Vec<(NodeId, Node)>, at: usize, id: NodeId, node: Nod
     ensures len { vec_len entries.new ≡ vec_len entries.old + 1 }
     ensures capacity { vec_capacity entries.new ≡ vec_capacity entries.old }
 {
-    match entries.insert(at, (id, node)) {
-        Ok(()) => (),
-        Err(_) => unreachable!(),
-    }
+    entries.insert(at, (id, node)).unwrap();
 }
 
 fn is_child_of(parent: &NodeId, entry: &(NodeId, Node)) -> bool

@@ -8,7 +8,7 @@ use Rattle.std.specs.Cmp.Lexicographic.{slice_cmp}
 use Rattle.std.specs.Ordering.{nat_cmp}
 use Rattle.room_json.proofs.Values.{fields_list-fields_of}
 use Rattle.room_json.specs.Back.{json_in}
-use Rattle.room_json.specs.Fields.{first, field_of, needed, allowed}
+use Rattle.room_json.specs.Fields.{and_then, field_of, needed, allowed}
 use Rattle.room_json.specs.Profile.{IsJson, HaveJson, AreSoundMembers}
 use Rattle.room_json.specs.Value.{Value, nothing, flag, whole, text, list, members, Values, no_values, value, Fields, no_fields, field, values_of, fields_of, values_list, fields_list, as_text, as_members, as_list, depth, fields_depth}
 use Rattle.room_json.specs.View.{json_of}
@@ -21,7 +21,7 @@ some_inj e = cc
 pub ok_inj : {A E : Type 0} {a b : A} → ◌≡◌ {A = Result A E} (Ok a) (Ok b) → a ≡ b
 ok_inj e = cc
 
-pub gone_on : {A B E : Type 0} (P : Type 0) (r : Result A E) (f : A → Result B E) (y : B) → first r f ≡ Ok y → ((x : A) → r ≡ Ok x → f x ≡ Ok y → P) → P
+pub gone_on : {A B E : Type 0} (P : Type 0) (r : Result A E) (f : A → Result B E) (y : B) → and_then r f ≡ Ok y → ((x : A) → r ≡ Ok x → f x ≡ Ok y → P) → P
 gone_on P (Ok x) f y h k = k x refl h
 gone_on P (Err e) f y h k = cc
 

@@ -3,7 +3,7 @@ use Rattle.std.specs.Prelude.{◌≡◌, ⊤, ℕ, ℤ, pos, negsuc, Bool, true,
 use Rattle.std.specs.Prelude.{Option, Some, None, option_and_then, Result, Ok, Err}
 use Rattle.std.specs.Str.{bytes_eq}
 use Rattle.room_json.specs.Back.{json_in}
-use Rattle.room_json.specs.Fields.{field_of, first, needed, allowed}
+use Rattle.room_json.specs.Fields.{field_of, and_then, needed, allowed}
 use Rattle.room_json.specs.Value.{Value, as_members, as_text, as_whole}
 use Rattle.room_ids.specs.Ids.{node_in, op_id_in}
 use Rattle.room_ids.specs.declared.ids.OpId.{OpId}
@@ -72,47 +72,47 @@ as_code v = option_and_then code_in (as_whole v)
 
 abbrev pub set_key_in : Value → Result Op Field
 set_key_in v =
-    first (needed as_node Id (field_of (codes "id") v)) (λ node.
-    first (needed as_op_id OpIdField (field_of (codes "opId") v)) (λ id.
-    first (needed as_text ParentKey (field_of (codes "parentKey") v)) (λ key.
+    and_then (needed as_node Id (field_of (codes "id") v)) (λ node.
+    and_then (needed as_op_id OpIdField (field_of (codes "opId") v)) (λ id.
+    and_then (needed as_text ParentKey (field_of (codes "parentKey") v)) (λ key.
     Ok (record { id = id; body = SetKey node key }))))
 
 abbrev pub update_in : Value → Result Op Field
 update_in v =
-    first (needed as_node Id (field_of (codes "id") v)) (λ node.
-    first (needed as_op_id OpIdField (field_of (codes "opId") v)) (λ id.
-    first (needed as_members Content (field_of (codes "data") v)) (λ fields.
+    and_then (needed as_node Id (field_of (codes "id") v)) (λ node.
+    and_then (needed as_op_id OpIdField (field_of (codes "opId") v)) (λ id.
+    and_then (needed as_members Content (field_of (codes "data") v)) (λ fields.
     Ok (record { id = id; body = Update node fields }))))
 
 abbrev pub delete_in : Value → Result Op Field
 delete_in v =
-    first (needed as_node Id (field_of (codes "id") v)) (λ node.
-    first (needed as_op_id OpIdField (field_of (codes "opId") v)) (λ id.
+    and_then (needed as_node Id (field_of (codes "id") v)) (λ node.
+    and_then (needed as_op_id OpIdField (field_of (codes "opId") v)) (λ id.
     Ok (record { id = id; body = Delete node })))
 
 abbrev pub delete_key_in : Value → Result Op Field
 delete_key_in v =
-    first (needed as_node Id (field_of (codes "id") v)) (λ node.
-    first (needed as_op_id OpIdField (field_of (codes "opId") v)) (λ id.
-    first (needed as_text Key (field_of (codes "key") v)) (λ key.
+    and_then (needed as_node Id (field_of (codes "id") v)) (λ node.
+    and_then (needed as_op_id OpIdField (field_of (codes "opId") v)) (λ id.
+    and_then (needed as_text Key (field_of (codes "key") v)) (λ key.
     Ok (record { id = id; body = DeleteKey node key }))))
 
 -- the kind of a created node, with its data
 abbrev pub made_in : Shape → Value → Result NodeKind Field
-made_in AnObject v = first (needed as_members Content (field_of (codes "data") v)) (λ fields. Ok (Object fields))
+made_in AnObject v = and_then (needed as_members Content (field_of (codes "data") v)) (λ fields. Ok (Object fields))
 made_in AList v = Ok Listing
 made_in AMap v = Ok Map
-made_in ARegister v = first (needed Some Content (field_of (codes "data") v)) (λ found. Ok (Register (json_in found)))
+made_in ARegister v = and_then (needed Some Content (field_of (codes "data") v)) (λ found. Ok (Register (json_in found)))
 
 abbrev pub create_in : Shape → Value → Result Op Field
 create_in shape v =
-    first (needed as_node Id (field_of (codes "id") v)) (λ node.
-    first (needed as_op_id OpIdField (field_of (codes "opId") v)) (λ id.
-    first (needed as_node ParentId (field_of (codes "parentId") v)) (λ parent.
-    first (needed as_text ParentKey (field_of (codes "parentKey") v)) (λ key.
-    first (made_in shape v) (λ kind.
-    first (allowed as_intent Intent (field_of (codes "intent") v)) (λ intent.
-    first (allowed as_node DeletedId (field_of (codes "deletedId") v)) (λ replaces.
+    and_then (needed as_node Id (field_of (codes "id") v)) (λ node.
+    and_then (needed as_op_id OpIdField (field_of (codes "opId") v)) (λ id.
+    and_then (needed as_node ParentId (field_of (codes "parentId") v)) (λ parent.
+    and_then (needed as_text ParentKey (field_of (codes "parentKey") v)) (λ key.
+    and_then (made_in shape v) (λ kind.
+    and_then (allowed as_intent Intent (field_of (codes "intent") v)) (λ intent.
+    and_then (allowed as_node DeletedId (field_of (codes "deletedId") v)) (λ replaces.
     Ok (record { id = id; body = Create node parent key replaces kind }))))))))
 
 abbrev pub coded_in : Code → Value → Result Op Field
@@ -124,7 +124,7 @@ coded_in ToDeleteKey v = delete_key_in v
 
 -- the operation that a value spells; `type` comes first
 abbrev pub op_in : Value → Result Op Field
-op_in v = first (needed as_code Kind (field_of (codes "type") v)) (λ code. coded_in code v)
+op_in v = and_then (needed as_code Kind (field_of (codes "type") v)) (λ code. coded_in code v)
 
 -- a fault that a reading gave; memory may run out at any time
 abbrev pub IsFaultOf : {A : Type 0} → Result A Field → WireFault → Type 0
