@@ -13,7 +13,9 @@ use Rattle.room_msg.specs.declared.messages.ServerMsg.TheVariants as server
 use Rattle.room_log.specs.Follows.{IsKey, most, most_actor}
 use Rattle.room_model.specs.Edits.{Edit}
 use Rattle.room_model.specs.Account.{Account, new_account, most_bytes}
-use Rattle.room_model.specs.Calls.{Done, Direction, lost, dialled, edit, batch_begin, batch_end, go_back, pause as pauses, resume as resumes, clear as clears, presence, event, flushed, resent, presence_size}
+use Rattle.room_model.specs.Calls.{Done, Direction, lost, dialled, edit, batch_begin, batch_end, go_back}
+use Rattle.room_model.specs.Calls.{pause as pauses, resume as resumes, clear as clears, presence, event, flushed}
+use Rattle.room_model.specs.Calls.{resent, presence_size}
 use Rattle.room_model.specs.Receive.{Received, receive}
 use Rattle.room_model.specs.Sound.{IsSound, IsSoundEdit, AreItems, IsValidTree}
 

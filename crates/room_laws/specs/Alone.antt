@@ -1,5 +1,6 @@
 -- Undoing alone, over lines: what a client did since some moment, if nothing came but what it sent itself.
-use Rattle.std.specs.Prelude.{◌≡◌, ◌≤◌, ◌<◌, ◌-◌, ℕ, suc, true, List, [], ◌∷◌, ◌++◌, Option, Some, None, Result, Ok, Err}
+use Rattle.std.specs.Prelude.{◌≡◌, ◌≤◌, ◌<◌, ◌-◌, ℕ, suc, true, List, [], ◌∷◌, ◌++◌, Option, Some, None, Result, Ok}
+use Rattle.std.specs.Prelude.{Err}
 use Rattle.room_nodes.specs.Equal.{are_first}
 use Rattle.room_nodes.specs.Shape.{Nodes}
 use Rattle.room_msg.specs.declared.messages.ServerMsg.{ServerMsg}

@@ -1,7 +1,8 @@
 -- How many entries a history holds.
 use Rattle.std.specs.Prelude.{◌≡◌, ◌≤◌, ◌+◌, ◌⊎◌, List, length, IsSome}
 use Rattle.room_nodes.specs.declared.nodes.Change.{Change}
-use Rattle.room_model.specs.History.{History, empty_history, note, pause, resume, clear, undo_entry, redo_entry, undone, redone, bag_count}
+use Rattle.room_model.specs.History.{History, empty_history, note, pause, resume, clear, undo_entry, redo_entry, undone}
+use Rattle.room_model.specs.History.{redone, bag_count}
 
 -- the history's lists hold 50 entries at most, and a bag stands beside an empty redo list
 pub record IsBounded (h : History) : Type 0 where

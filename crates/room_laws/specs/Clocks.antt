@@ -5,7 +5,9 @@ use Rattle.room_json.specs.declared.tree.Json.{Json}
 use Rattle.room_msg.specs.declared.messages.ServerMsg.{ServerMsg}
 use Rattle.room_model.specs.Edits.{Edit}
 use Rattle.room_model.specs.Account.{Account, new_account}
-use Rattle.room_model.specs.Calls.{Done, Direction, lost, dialled, edit, batch_begin, batch_end, go_back, pause as pauses, resume as resumes, clear as clears, presence, event, flushed, resent}
+use Rattle.room_model.specs.Calls.{Done, Direction, lost, dialled, edit, batch_begin, batch_end, go_back}
+use Rattle.room_model.specs.Calls.{pause as pauses, resume as resumes, clear as clears, presence, event, flushed}
+use Rattle.room_model.specs.Calls.{resent}
 use Rattle.room_model.specs.Receive.{Received, receive}
 use Rattle.room_model.specs.Sound.{ClocksRunOn}
 

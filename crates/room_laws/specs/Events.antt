@@ -1,9 +1,11 @@
 -- What happens to one client in a run, and what its account is after it.
-use Rattle.std.specs.Prelude.{◌≡◌, ℕ, zero, suc, ◌==◌, if◌then◌else◌, List, [], ◌∷◌, ◌++◌, Option, Some, None, Result, Ok, Err}
+use Rattle.std.specs.Prelude.{◌≡◌, ℕ, zero, suc, ◌==◌, if◌then◌else◌, List, [], ◌∷◌, ◌++◌, Option, Some, None, Result}
+use Rattle.std.specs.Prelude.{Ok, Err}
 use Rattle.std.specs.FinMap.{get}
 use Rattle.room_msg.specs.declared.messages.ServerMsg.{ServerMsg}
 use Rattle.room_model.specs.Account.{Account}
-use Rattle.room_model.specs.Calls.{Done, Undo, Redo, UndoFault, lost, dialled, edit, batch_begin, batch_end, go_back, pause, resume, clear, presence, event, flushed, resent}
+use Rattle.room_model.specs.Calls.{Done, Undo, Redo, UndoFault, lost, dialled, edit, batch_begin, batch_end, go_back}
+use Rattle.room_model.specs.Calls.{pause, resume, clear, presence, event, flushed, resent}
 use Rattle.room_model.specs.Receive.{Received, FrameFault, receive}
 use Rattle.room_model.specs.Server.{Outbound, Pong, Message, Closed}
 use Rattle.room_model.specs.Lines as lines

@@ -1,5 +1,6 @@
 -- What holds between two lines of a schedule.
-use Rattle.std.specs.Prelude.{◌≡◌, ℕ, ◌+◌, ◌<◌, ◌≤◌, ◌⊎◌, true, false, List, [], ◌∷◌, ◌++◌, length, Option, Some, None, is_some, Ok}
+use Rattle.std.specs.Prelude.{◌≡◌, ℕ, ◌+◌, ◌<◌, ◌≤◌, ◌⊎◌, true, false, List, [], ◌∷◌, ◌++◌, length, Option, Some, None}
+use Rattle.std.specs.Prelude.{is_some, Ok}
 use Rattle.std.specs.FinMap.{get}
 use Rattle.room_nodes.specs.Shape.{Nodes}
 use Rattle.room_items.specs.Items.{tree_in, items_of}

@@ -1,5 +1,6 @@
 -- What may wait in the two queues of a connection.
-use Rattle.std.specs.Prelude.{◌≡◌, ℕ, ◌+◌, ◌≤◌, max, Bool, true, false, List, [], ◌∷◌, ◌++◌, length, Option, Some, None, Ok, Err}
+use Rattle.std.specs.Prelude.{◌≡◌, ℕ, ◌+◌, ◌≤◌, max, Bool, true, false, List, [], ◌∷◌, ◌++◌, length, Option, Some, None}
+use Rattle.std.specs.Prelude.{Ok, Err}
 use Rattle.room_json.specs.Value.{Value}
 use Rattle.room_items.specs.Items.{tree_in}
 use Rattle.room_msg.specs.declared.messages.Resume.{Resume}

@@ -1,5 +1,6 @@
 -- Which entries follow a state, as a test; which states and logs are valid.
-use Rattle.std.specs.Prelude.{◌≡◌, ◌≤◌, ◌<◌, ◌+◌, ◌==◌, ℕ, suc, Bool, true, false, ◌&&◌, nat_le, nat_lt, List, [], ◌∷◌, length, Option, Some, None, IsUtf8}
+use Rattle.std.specs.Prelude.{◌≡◌, ◌≤◌, ◌<◌, ◌+◌, ◌==◌, ℕ, suc, Bool, true, false, ◌&&◌, nat_le, nat_lt, List, [], ◌∷◌}
+use Rattle.std.specs.Prelude.{length, Option, Some, None, IsUtf8}
 use Rattle.room_nodes.specs.Equal.{same_bodies}
 use Rattle.room_nodes.specs.Shallow.{AreShallow, IsShallowTree, all_shallow}
 use Rattle.room_nodes.specs.Shape.{IsFormed}

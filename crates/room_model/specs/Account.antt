@@ -1,5 +1,6 @@
 -- The account of a client: what it holds, shows and sends.
-use Rattle.std.specs.Prelude.{ℕ, ◌+◌, ◌-◌, pos, negsuc, Bool, true, false, if◌then◌else◌, nat_lt, max, List, [], ◌∷◌, ◌++◌, length, drop, Option, Some, None}
+use Rattle.std.specs.Prelude.{ℕ, ◌+◌, ◌-◌, pos, negsuc, Bool, true, false, if◌then◌else◌, nat_lt, max, List, [], ◌∷◌}
+use Rattle.std.specs.Prelude.{◌++◌, length, drop, Option, Some, None}
 use Rattle.room_json.specs.Value.{Value}
 use Rattle.room_json.specs.declared.tree.Json.{Json}
 use Rattle.room_nodes.specs.declared.nodes.Op.{Op}

@@ -9,7 +9,8 @@
 --   `presence`                  the depth of its values, then its size
 --   `event`                     the connection, the depth, the size
 -- `flushed` and `resent` stand with the frames that they send.
-use Rattle.std.specs.Prelude.{ℕ, ◌+◌, Bool, true, false, ◌&&◌, not, if◌then◌else◌, nat_lt, List, [], ◌∷◌, ◌++◌, map, length, Option, Some, None, Result, Ok, Err}
+use Rattle.std.specs.Prelude.{ℕ, ◌+◌, Bool, true, false, ◌&&◌, not, if◌then◌else◌, nat_lt, List, [], ◌∷◌, ◌++◌, map}
+use Rattle.std.specs.Prelude.{length, Option, Some, None, Result, Ok, Err}
 use Rattle.room_json.specs.Value.{Value, depth, merged}
 use Rattle.room_json.specs.View.{json_of}
 use Rattle.room_json.specs.declared.tree.Json.{Json}
@@ -23,10 +24,13 @@ use Rattle.room_msg.specs.declared.messages.ClientMsg.TheVariants as client
 use Rattle.room_log.specs.Log.{ops_from, bodies_of}
 use Rattle.room_model.specs.Edits.{Edit, EditFault, NotLoaded, BatchTooLarge, Made, make, spent, fields_most}
 use Rattle.room_nodes.specs.Reversal.{reverse, reverse_all}
-use Rattle.room_model.specs.History.{History, note, pause as pause_history, resume as resume_history, clear as clear_history, undo_entry, redo_entry, undone, redone}
+use Rattle.room_model.specs.History.{History, note, pause as pause_history, resume as resume_history}
+use Rattle.room_model.specs.History.{clear as clear_history, undo_entry, redo_entry, undone, redone}
 use Rattle.room_model.specs.Presence.{nobody, with_names, kept_names, unsent_members, back_of}
 use Rattle.room_model.specs.Notices.{Notice, notices_of_all}
-use Rattle.room_model.specs.Account.{Account, Batch, OpenBatch, Idle, Dialled, actor, issued, last_issued, open_ops, shown, clocks, is_on, is_synced, is_some_list, keys_in, frame_of, frame_of_ops, frame_of_patch, frame_of_full_to, frame_of_event, size_of, most_bytes}
+use Rattle.room_model.specs.Account.{Account, Batch, OpenBatch, Idle, Dialled, actor, issued, last_issued, open_ops}
+use Rattle.room_model.specs.Account.{shown, clocks, is_on, is_synced, is_some_list, keys_in, frame_of, frame_of_ops}
+use Rattle.room_model.specs.Account.{frame_of_patch, frame_of_full_to, frame_of_event, size_of, most_bytes}
 
 -- the connection
 

@@ -4,7 +4,9 @@
 -- the
 -- indices are in the list (`make_of`); the depth of the values, then that of the nodes; the length of the positions
 -- (`placed`); the node clocks, then the operation clocks (`clocked`).
-use Rattle.std.specs.Prelude.{ℕ, ◌+◌, ◌-◌, ◌==◌, Bool, true, false, ◌||◌, not, if◌then◌else◌, nat_lt, nat_le, is_some, max, List, [], ◌∷◌, ◌++◌, length, insert, remove, slice_get, slice_set, Option, Some, None, Result, Ok, Err}
+use Rattle.std.specs.Prelude.{ℕ, ◌+◌, ◌-◌, ◌==◌, Bool, true, false, ◌||◌, not, if◌then◌else◌, nat_lt, nat_le, is_some}
+use Rattle.std.specs.Prelude.{max, List, [], ◌∷◌, ◌++◌, length, insert, remove, slice_get, slice_set, Option, Some}
+use Rattle.std.specs.Prelude.{None, Result, Ok, Err}
 use Rattle.std.specs.Ordering.{nat_cmp}
 use Rattle.std.specs.Cmp.Lexicographic.{slice_cmp}
 use Rattle.std.specs.BTreeMap.{insert_entry, is_at}
@@ -12,7 +14,8 @@ use Rattle.std.specs.Map.{remove_entry}
 use Rattle.std.specs.FinMap.{get}
 use Rattle.room_json.specs.Value.{Value, list, members, values_of, values_list, fields_of, fields_list, depth, merged}
 use Rattle.room_json.specs.Fields.{and_then}
-use Rattle.room_ids.specs.Position.{first as first_position, after as after_position, before as before_position, between as between_positions}
+use Rattle.room_ids.specs.Position.{first as first_position, after as after_position, before as before_position}
+use Rattle.room_ids.specs.Position.{between as between_positions}
 use Rattle.room_ids.specs.declared.ids.NodeId.{NodeId}
 use Rattle.room_nodes.specs.declared.nodes.Node.{Node}
 use Rattle.room_nodes.specs.declared.nodes.Kind.{Kind}

@@ -7,12 +7,15 @@ use Rattle.room_json.specs.declared.tree.Json.{Json}
 use Rattle.room_ids.specs.Ids.{node_text}
 use Rattle.room_nodes.specs.Shape.{Nodes}
 use Rattle.room_items.specs.View.{view}
-use Rattle.room_model.specs.Edits.{Edit, EditFault, NotLoaded, NoNode, WrongKind, BadIndex, ValueTooDeep, NodeTooDeep, PosTooLong, ClocksSpent, BatchTooLarge}
+use Rattle.room_model.specs.Edits.{Edit, EditFault, NotLoaded, NoNode, WrongKind, BadIndex, ValueTooDeep, NodeTooDeep}
+use Rattle.room_model.specs.Edits.{PosTooLong, ClocksSpent, BatchTooLarge}
 use Rattle.room_model.specs.History.{undo_count, redo_count}
 use Rattle.room_model.specs.Presence.{others_value}
 use Rattle.room_model.specs.Notices.{Notice, notices_value}
 use Rattle.room_model.specs.Account.{Account, shown, unacknowledged}
-use Rattle.room_model.specs.Calls.{BatchFault, InBatch, NoBatch, UndoFault, UndoInBatch, UndoClocksSpent, UndoBatchTooLarge, UndoTooLarge, SayFault, NotConnected, ValueTooDeep as SayTooDeep, TooLarge}
+use Rattle.room_model.specs.Calls.{BatchFault, InBatch, NoBatch, UndoFault, UndoInBatch, UndoClocksSpent}
+use Rattle.room_model.specs.Calls.{UndoBatchTooLarge, UndoTooLarge, SayFault, NotConnected, ValueTooDeep as SayTooDeep}
+use Rattle.room_model.specs.Calls.{TooLarge}
 use Rattle.room_model.specs.Receive.{FrameFault, BadServerFrame, Unexpected, NotATree, Gap, AccountFault, Parts}
 use Rattle.room_model.specs.Server.{reason_text}
 use Rattle.room_log.specs.Log.{State}

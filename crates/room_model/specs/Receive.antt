@@ -5,7 +5,8 @@
 -- refusal. The tests of each message in their order: the stage allows it (`Unexpected`); a part of a state belongs to
 -- those kept (`Parts`), and with the last one the items are a tree (`NotATree`); an update has the next number (`Gap`);
 -- what it says of the account agrees with what is kept (`AccountFault`).
-use Rattle.std.specs.Prelude.{ℕ, ◌+◌, ◌==◌, ℤ, Bool, true, false, ◌&&◌, ◌||◌, not, if◌then◌else◌, nat_lt, nat_le, List, [], ◌∷◌, ◌++◌, map, Option, Some, None, Result, Ok, Err}
+use Rattle.std.specs.Prelude.{ℕ, ◌+◌, ◌==◌, ℤ, Bool, true, false, ◌&&◌, ◌||◌, not, if◌then◌else◌, nat_lt, nat_le, List}
+use Rattle.std.specs.Prelude.{[], ◌∷◌, ◌++◌, map, Option, Some, None, Result, Ok, Err}
 use Rattle.room_json.specs.Value.{Value}
 use Rattle.room_json.specs.Fields.{and_then}
 use Rattle.room_json.specs.declared.tree.Json.{Json}
@@ -26,7 +27,9 @@ use Rattle.room_log.specs.Log.{actor_of, clock_of, bodies_of}
 use Rattle.room_nodes.specs.Equal.{are_first}
 use Rattle.room_model.specs.Presence.{nobody, other_full, other_patched, forgotten}
 use Rattle.room_model.specs.Notices.{Notice, Reset, notices_of_all}
-use Rattle.room_model.specs.Account.{Account, Part, Stage, Idle, Dialled, Connected, Synced, actor, issued, last_issued, beyond, pending, shown, is_on, is_some_list, frame_of, frame_of_full, frame_of_full_to, frame_of_fetch}
+use Rattle.room_model.specs.Account.{Account, Part, Stage, Idle, Dialled, Connected, Synced, actor, issued, last_issued}
+use Rattle.room_model.specs.Account.{beyond, pending, shown, is_on, is_some_list, frame_of, frame_of_full}
+use Rattle.room_model.specs.Account.{frame_of_full_to, frame_of_fetch}
 use Rattle.room_model.specs.Calls.{lost, tree_or_bare}
 
 -- the account after what was taken, with the frames that answer it, the events that are handed out, and what changed

@@ -1,5 +1,6 @@
 -- A run over a schedule: its report, its log, and what clients issued.
-use Rattle.std.specs.Prelude.{◌≡◌, ℕ, ◌==◌, Bool, true, false, ◌&&◌, ◌||◌, not, if◌then◌else◌, List, [], ◌∷◌, ◌++◌, Option, Some, None}
+use Rattle.std.specs.Prelude.{◌≡◌, ℕ, ◌==◌, Bool, true, false, ◌&&◌, ◌||◌, not, if◌then◌else◌, List, [], ◌∷◌, ◌++◌}
+use Rattle.std.specs.Prelude.{Option, Some, None}
 use Rattle.room_log.specs.Log.{State, Entry}
 use Rattle.room_model.specs.Account.{Batch, actor}
 use Rattle.room_model.specs.World.{World, Stepped, account, opening, step}

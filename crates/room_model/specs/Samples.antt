@@ -1,5 +1,6 @@
 -- Samples: what the definitions say of cases that a reader can follow.
-use Rattle.std.specs.Prelude.{◌≡◌, ◌++◌, ◌+◌, ℕ, pos, true, false, List, [], ◌∷◌, map, length, take as front, codes, Option, Some, None, Ok, Err}
+use Rattle.std.specs.Prelude.{◌≡◌, ◌++◌, ◌+◌, ℕ, pos, true, false, List, [], ◌∷◌, map, length, take as front, codes}
+use Rattle.std.specs.Prelude.{Option, Some, None, Ok, Err}
 use Rattle.std.specs.FinMap.{entries, insert, remove}
 use Rattle.room_json.specs.Value.{Value, whole, list, members, no_values, value, no_fields, field}
 use Rattle.room_json.specs.declared.tree.Json.{Json}
@@ -24,13 +25,16 @@ use Rattle.room_msg.specs.declared.reason.Reason.TheVariants as reason
 use Rattle.room_log.specs.Log.{State, Entry, Updated, Update as TakenUpdate, op_of, ops_of, updated}
 use Rattle.room_log.specs.Taking.{Nothing, Gap, Takes, take}
 use Rattle.room_model.specs.Init.{Init, Plain, AnObject, AMap, AList, no_parts, part, no_inits, init, creates, made_id}
-use Rattle.room_model.specs.Edits.{Clocks, Edit, NoNode, WrongKind, Push, target, make_at, make_of, inserted_key, moved_key}
+use Rattle.room_model.specs.Edits.{Clocks, Edit, NoNode, WrongKind, Push, target, make_at, make_of, inserted_key}
+use Rattle.room_model.specs.Edits.{moved_key}
 use Rattle.room_nodes.specs.Reversal.{creation, key_restored, old_fields, old_update, gone_or}
 use Rattle.room_model.specs.History.{empty_history, note, pause, resume, undone, undo_count, redo_count, undo_entry}
 use Rattle.room_model.specs.Notices.{Fields as FieldsOf, Take as TakeOf, Move, Key, apply_all}
 use Rattle.room_model.specs.Receive.{told_by, other_parts}
 use Rattle.room_model.specs.Access.{Read}
-use Rattle.room_model.specs.Server.{Server, Link, Outbound, Closed, Pong, Message, left_to, shut, frame_at, messages, greet, session_frame, owned, permitted, taken, act_all, commit, parts_of, resumed, without_actor, with_session}
+use Rattle.room_model.specs.Server.{Server, Link, Outbound, Closed, Pong, Message, left_to, shut, frame_at, messages}
+use Rattle.room_model.specs.Server.{greet, session_frame, owned, permitted, taken, act_all, commit, parts_of, resumed}
+use Rattle.room_model.specs.Server.{without_actor, with_session}
 use Rattle.room_model.specs.World.{World, Host, Running, Stopped, Fuse, answer, compact, start}
 use Rattle.room_model.specs.Lines.{How, Old, New, Torn}
 

@@ -12,7 +12,9 @@
 --   `permitted`      no message needs a higher level
 --   `taken`          the clocks have no gap; then there are fewer updates than the limit
 -- What passes acts message by message (`act_all`). A connection is new by `opened`, and ends by `gone`.
-use Rattle.std.specs.Prelude.{ℕ, zero, suc, ◌+◌, ◌==◌, ℤ, pos, negsuc, Bool, true, false, ◌&&◌, ◌||◌, not, if◌then◌else◌, nat_le, is_some, List, [], ◌∷◌, ◌++◌, length, take as front, drop, codes, decimal, Option, Some, None, Result, Ok, Err}
+use Rattle.std.specs.Prelude.{ℕ, zero, suc, ◌+◌, ◌==◌, ℤ, pos, negsuc, Bool, true, false, ◌&&◌, ◌||◌, not}
+use Rattle.std.specs.Prelude.{if◌then◌else◌, nat_le, is_some, List, [], ◌∷◌, ◌++◌, length, take as front, drop, codes}
+use Rattle.std.specs.Prelude.{decimal, Option, Some, None, Result, Ok, Err}
 use Rattle.std.specs.Ordering.{nat_cmp}
 use Rattle.std.specs.Str.{bytes_eq}
 use Rattle.std.specs.FinMap.{FinMap, get, insert, remove, retain_keys, entries, from_entries}
@@ -29,7 +31,8 @@ use Rattle.room_msg.specs.declared.messages.ServerMsg.{ServerMsg}
 use Rattle.room_msg.specs.declared.messages.ServerMsg.TheVariants as server
 use Rattle.room_msg.specs.declared.reason.Reason.{Reason}
 use Rattle.room_msg.specs.declared.reason.Reason.TheVariants as reason
-use Rattle.room_log.specs.Log.{Session, State, Update, Entry, Join, Updated, actor_of, ops_of, session_of, last_of, name_in, joined, updated}
+use Rattle.room_log.specs.Log.{Session, State, Update, Entry, Join, Updated, actor_of, ops_of, session_of, last_of}
+use Rattle.room_log.specs.Log.{name_in, joined, updated}
 use Rattle.room_log.specs.Taking.{Taken, Nothing, Gap, Takes, take}
 use Rattle.room_model.specs.Access.{Access, Decision, decide, group_of, barred, refusal_text}
 

@@ -1,5 +1,6 @@
 -- What is true of every account between two calls, whatever was done with it; and what edits and lines can be spelled.
-use Rattle.std.specs.Prelude.{◌≡◌, ◌≢◌, ◌≤◌, ◌<◌, ◌+◌, ℕ, true, List, [], ◌∷◌, length, Option, Some, None, Ok, Err, IsUtf8, ⊤}
+use Rattle.std.specs.Prelude.{◌≡◌, ◌≢◌, ◌≤◌, ◌<◌, ◌+◌, ℕ, true, List, [], ◌∷◌, length, Option, Some, None, Ok, Err}
+use Rattle.std.specs.Prelude.{IsUtf8, ⊤}
 use Rattle.std.specs.Ordering.{nat_cmp}
 use Rattle.std.specs.Cmp.Lexicographic.{slice_cmp}
 use Rattle.std.specs.List.{AllByRecursion}
@@ -25,7 +26,8 @@ use Rattle.room_model.specs.Edits as edits
 use Rattle.room_model.specs.Edits.{Edit, fields_most}
 use Rattle.room_model.specs.History.{History}
 use Rattle.room_model.specs.Presence.{Others}
-use Rattle.room_model.specs.Account.{Account, Batch, OpenBatch, Stage, Synced, issued, ends, bodies_in, frame_of_event, size_of, most_bytes}
+use Rattle.room_model.specs.Account.{Account, Batch, OpenBatch, Stage, Synced, issued, ends, bodies_in, frame_of_event}
+use Rattle.room_model.specs.Account.{size_of, most_bytes}
 use Rattle.room_model.specs.Calls.{entry_bodies, presence_size}
 use Rattle.room_model.specs.Receive.{parts_items}
 use Rattle.room_model.specs.Server.{Inbound}

@@ -7,7 +7,8 @@
 -- or
 -- the client or the link does (`peer_receives`); a line of the server (`server_line`) stops it, starts it or sets what
 -- stops it; `drain` moves what waits until nothing does.
-use Rattle.std.specs.Prelude.{ℕ, zero, suc, ◌+◌, ◌-◌, Bool, true, false, ◌&&◌, if◌then◌else◌, nat_le, is_some, List, [], ◌∷◌, ◌++◌, map, codes, Option, Some, None, Result, Ok, Err}
+use Rattle.std.specs.Prelude.{ℕ, zero, suc, ◌+◌, ◌-◌, Bool, true, false, ◌&&◌, if◌then◌else◌, nat_le, is_some, List, []}
+use Rattle.std.specs.Prelude.{◌∷◌, ◌++◌, map, codes, Option, Some, None, Result, Ok, Err}
 use Rattle.std.specs.Ordering.{nat_cmp}
 use Rattle.std.specs.FinMap.{FinMap, get, insert, entries, from_entries, empty}
 use Rattle.room_msg.specs.declared.messages.ClientMsg.{ClientMsg}
@@ -19,9 +20,12 @@ use Rattle.room_log.specs.Log.{State, Entry, after}
 use Rattle.room_model.specs.Edits.{EditFault}
 use Rattle.room_model.specs.Notices.{Notice}
 use Rattle.room_model.specs.Account.{Account, Batch, new_account, is_some_list}
-use Rattle.room_model.specs.Calls.{Done, Undo as Back, Redo as Forth, BatchFault, UndoFault, SayFault, lost, dialled, hello_of, edit, batch_begin, batch_end, go_back, pause, resume, clear, presence, event, flush_frames, flushed, resend_frames, resent}
+use Rattle.room_model.specs.Calls.{Done, Undo as Back, Redo as Forth, BatchFault, UndoFault, SayFault, lost, dialled}
+use Rattle.room_model.specs.Calls.{hello_of, edit, batch_begin, batch_end, go_back, pause, resume, clear, presence}
+use Rattle.room_model.specs.Calls.{event, flush_frames, flushed, resend_frames, resent}
 use Rattle.room_model.specs.Receive.{Received, Refusal, receive_frame}
-use Rattle.room_model.specs.Server.{Outbound, Pong, Message, Closed, Inbound, Limits, Server, Served, Link, opened, gone, serve}
+use Rattle.room_model.specs.Server.{Outbound, Pong, Message, Closed, Inbound, Limits, Server, Served, Link, opened}
+use Rattle.room_model.specs.Server.{gone, serve}
 use Rattle.room_model.specs.Lines
 
 -- what is there

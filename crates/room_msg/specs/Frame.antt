@@ -38,7 +38,9 @@ abbrev pub frame_value_in : List ℕ → Result Value Reason
 frame_value_in bytes = refused (value_of_text bytes)
 
 abbrev pub client_msgs_in : Value → Result ClientFrame Reason
-client_msgs_in v = and_then (ok_or (as_list v) NoList) (λ vs. and_then (each_in client_in vs) (λ ms. Ok (client.Msgs ms)))
+client_msgs_in v =
+    and_then (ok_or (as_list v) NoList) (λ vs.
+    and_then (each_in client_in vs) (λ ms. Ok (client.Msgs ms)))
 
 -- what a client's frame holds, or the first reason why it is refused
 abbrev pub client_frame_in : List ℕ → Result ClientFrame Reason

@@ -3,7 +3,8 @@ use Rattle.std.specs.Prelude.{◌≡◌, ℕ, ◌&&◌, not, if◌then◌else◌
 use Rattle.std.specs.FinMap.{get}
 use Rattle.room_ids.specs.Position.{between}
 use Rattle.room_nodes.specs.Shape.{Nodes, child_at, up}
-use Rattle.room_nodes.specs.Steps.{is_void, is_other, is_placed, next_key, without, without_replaced, holds_list, settled_body}
+use Rattle.room_nodes.specs.Steps.{is_void, is_other, is_placed, next_key, without, without_replaced, holds_list}
+use Rattle.room_nodes.specs.Steps.{settled_body}
 use Rattle.room_ids.specs.Order.{is_same}
 use Rattle.room_ids.specs.declared.ids.NodeId.{NodeId}
 use Rattle.room_ids.specs.declared.ids.NodeId.TheVariants.{Root}

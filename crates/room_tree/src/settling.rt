@@ -65,7 +65,8 @@ fn place<T: Tree>(
 ) -> Result<Settled, NoMemory>
     requires under { IsChildOf (T.nodes t.now) list.now (option_copied replaced) }
     requires list { holds_list (get (T.nodes t.now) list.now) ≡ true }
-    ensures { IfOk result (λ s. s ≡ placed_without (T.nodes t.now) (option_copied replaced.entry) list.now own.now key.now) }
+    ensures { IfOk result (λ s. s
+        ≡ placed_without (T.nodes t.now) (option_copied replaced.entry) list.now own.now key.now) }
 {
     match Pos::read(alloc, key)? {
         Some(x) => {

@@ -102,7 +102,8 @@ abbrev pub made_in : Shape → Value → Result NodeKind Field
 made_in AnObject v = and_then (needed as_members Content (field_of (codes "data") v)) (λ fields. Ok (Object fields))
 made_in AList v = Ok Listing
 made_in AMap v = Ok Map
-made_in ARegister v = and_then (needed Some Content (field_of (codes "data") v)) (λ found. Ok (Register (json_in found)))
+made_in ARegister v =
+    and_then (needed Some Content (field_of (codes "data") v)) (λ found. Ok (Register (json_in found)))
 
 abbrev pub create_in : Shape → Value → Result Op Field
 create_in shape v =
