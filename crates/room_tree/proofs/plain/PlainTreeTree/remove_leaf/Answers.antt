@@ -6,7 +6,7 @@ use Rattle.room_tree.specs.Nearest.{place_of}
 use Rattle.room_nodes.proofs.Again.{again}
 use Rattle.room_tree.proofs.Soundness.{sound-remove}
 use Rattle.room_tree.proofs.Vectors.{at_place, held, taken, cut_sorted, cut_map}
-use Rattle.room_nodes.specs.declared.turns.Turn.TheVariants.{Take}
+use Rattle.room_nodes.specs.declared.turns.Turn.TheVariants.{Cut}
 use Rattle.room_tree.proofs.plain.PlainTreeTree.remove_leaf.Goals as goal
 
 pub take_at-requires : goal.take_at-requires
@@ -23,7 +23,7 @@ invariant_of-self c =
     let same = sym (cut_map es c.args.self.now.sorted c.args.id.now c.place-at.result here c.requires.there _ c.take_at.ensures.items) in
     record {
       sorted = cut_sorted es c.args.self.now.sorted c.args.id.now c.place-at.result here c.requires.there _ c.take_at.ensures.items;
-      formed = subst IsFormed same (again (from_sorted es) c.args.self.now.formed (Take c.args.id.now) c.requires).formed;
+      formed = subst IsFormed same (again (from_sorted es) c.args.self.now.formed (Cut c.args.id.now) c.requires).formed;
       sound = subst IsSoundTree same (sound-remove (from_sorted es) c.args.self.now.sound c.args.id.now);
     }
 
