@@ -16,10 +16,10 @@ use Rattle.room_wire.proofs.Fields.{some_inj, and_then_of, map_of, needed_of, me
 use Rattle.room_msg.specs.Laws.{IsActor, AreActors}
 use Rattle.room_msg.specs.Msg.{at}
 use Rattle.room_msg.specs.Sound.{AreNames}
-use Rattle.room_msg.specs.Users.{insert_user, or_empty, name_in, user_in, users_into, as_users, IsRising}
+use Rattle.room_msg.specs.Users.{insert_user, or_empty, name_in, user_in, users_of, as_users, IsRising}
 use Rattle.room_msg.specs.declared.reason.Reason.TheVariants.{Field}
 use Rattle.room_msg.proofs.KeyTexts.{from_le}
-use Rattle.room_msg.proofs.Swaps.{Entry, IsFresh, AreFresh, same, actor_of}
+use Rattle.room_msg.proofs.Swaps.{Entry, IsFresh, AreFresh, AllFresh, same, actor_of, users_into, users_of_into}
 
 abbrev User : Type 0
 User = ℕ × List ℕ
@@ -102,6 +102,14 @@ ordered_fresh : (e : Entry) (es : List Entry) → AreOrdered (e ∷ es) → IsFr
 unfolding IsStrictlySortedBy
 ordered_fresh e es h = (less_fresh e.0 es h.0, h.1)
 
+all_fresh : (es : List Entry) → AreOrdered es → AllFresh es
+all_fresh [] h = tt
+all_fresh (e ∷ es) h = let rest = ordered_fresh e es h in (rest.0, all_fresh es rest.1)
+
+-- the users that the entries of an object tell, found from the front
+pub found_in_order : (es : List Entry) → IsStrictlySortedBy (slice_cmp nat_cmp) (keys_of es) → users_of es ≡ users_into es []
+found_in_order es h = users_of_into es (all_fresh es h)
+
 fresh_behind : (e : Entry) (es : List Entry) (us : List User) → AreFresh us (e ∷ es) → AreFresh us es
 fresh_behind e es [] h = tt
 fresh_behind e es (u ∷ us) h = (h.0.1, fresh_behind e es us h.1)
@@ -130,9 +138,9 @@ into_users (e ∷ es) found us h ordered json are fresh =
 
 as_users_are : (v : Value) (us : List User) → as_users v ≡ Some us → IsJson v → AreUsers us
 as_users_are v us h json =
-    and_then_of _ (λ (ms : List Entry). users_into ms []) (as_members v) us h (λ ms there h.
+    and_then_of _ (λ (ms : List Entry). users_of ms) (as_members v) us h (λ ms there h.
     let sound = sound_members ms (subst IsJson (members_is v ms there) json) in
-    into_users ms [] us h sound.ordered sound.json (record { rising = tt; each = tt }) tt)
+    into_users ms [] us (sym (found_in_order ms sound.ordered) ∙ h) sound.ordered sound.json (record { rising = tt; each = tt }) tt)
 
 -- the users of a room state
 

@@ -1,4 +1,4 @@
--- Users are found in any order.
+-- Users may be found in any order: so reading from the front gives the entries that the definition tells.
 use Rattle.std.proofs.Common.{◌≡◌, ◌≢◌, ◌∙◌, sym, ap, subst, ℕ, List, [], ◌∷◌, Option, Some, None, option_and_then, option_map, refl, arith, ◌≤◌, ◌<◌, Ordering, Less, Equal, Greater, nat_cmp, map}
 use Rattle.std.specs.Bool.{⊤}
 use Rattle.std.specs.Fmt.{decimal}
@@ -13,7 +13,7 @@ use Rattle.room_json.specs.Value.{Value, as_members, merged, object_of}
 use Rattle.room_json.proofs.Values.{fields_list-fields_of}
 use Rattle.room_ids.specs.Ids.{number_in}
 use Rattle.room_ids.proofs.Spelled.{number_again, number_once}
-use Rattle.room_msg.specs.Users.{insert_user, user_in, users_into, name_in, as_users, IsRising}
+use Rattle.room_msg.specs.Users.{insert_user, user_in, users_of, name_in, as_users, IsRising}
 use Rattle.room_msg.specs.Laws.{AreActors}
 use Rattle.room_msg.specs.Written.{user_out, user_value}
 
@@ -23,6 +23,11 @@ insert_user-swap a b s t (x ∷ xs) n = grind (arith, common_steps, insert_user-
 
 abbrev pub Entry : Type 0
 Entry = List ℕ × Value
+
+-- the users found before, with these
+abbrev pub users_into : List Entry → List (ℕ × List ℕ) → Option (List (ℕ × List ℕ))
+users_into [] found = Some found
+users_into (e ∷ es) found = option_and_then (λ u. users_into es (insert_user u found)) (user_in e)
 
 -- no entry has this name
 abbrev pub IsFresh : List ℕ → List Entry → Type 0
@@ -50,12 +55,44 @@ user_step t v u (Some n) e h = user_in_some (as_members v) h
     user_in_some None h = cc
     user_in_some (Some ms) h = let is : (n, name_in v) ≡ u = some_inj h in ap (λ (w : ℕ × List ℕ). decimal w.0) (sym is) ∙ (number_once 4294967295 n t (omega arith) e).0
 
+-- each name but once
+abbrev pub AllFresh : List Entry → Type 0
+AllFresh [] = ⊤
+AllFresh (e ∷ es) = IsFresh e.0 es × AllFresh es
+
+mirrored : (x y : List ℕ) → slice_cmp nat_cmp x y ≡ Equal → slice_cmp nat_cmp y x ≡ Equal
+mirrored x y e = same y x (sym (exact x y e))
+
 -- an entry's name is the text of its actor
 pub actor_of : (e : Entry) (u : ℕ × List ℕ) → user_in e ≡ Some u → decimal u.0 ≡ e.0
 actor_of e u h = user_step e.0 e.1 u _ refl h
 
 apart : (e d : Entry) (u w : ℕ × List ℕ) → (slice_cmp nat_cmp d.0 e.0 ≡ Equal → ⊥) → user_in e ≡ Some u → user_in d ≡ Some w → u.0 ≢ w.0
 apart e d u w fresh h k = λ one. fresh (same d.0 e.0 (sym (actor_of d w k) ∙ ap decimal (sym one) ∙ actor_of e u h))
+
+-- a user found before others, or after them
+into_insert : (e : Entry) (u : ℕ × List ℕ) → user_in e ≡ Some u → (es : List Entry) (found : List (ℕ × List ℕ)) → IsFresh e.0 es
+    → users_into es (insert_user u found) ≡ option_map (insert_user u) (users_into es found)
+into_insert e u i [] found fresh = refl
+into_insert e u i (d ∷ es) found fresh = by_user (user_in d) refl (λ f. into_insert e u i es f fresh.1)
+  where
+    by_user : (p : Option (ℕ × List ℕ)) → user_in d ≡ p
+        → ((f : List (ℕ × List ℕ)) → users_into es (insert_user u f) ≡ option_map (insert_user u) (users_into es f))
+        → option_and_then (λ w. users_into es (insert_user w (insert_user u found))) p
+        ≡ option_map (insert_user u) (option_and_then (λ w. users_into es (insert_user w found)) p)
+    by_user None j rest = refl
+    by_user (Some w) j rest =
+        ap (users_into es) (insert_user-swap w.0 u.0 w.1 u.1 found (λ one. apart e d u w (λ k. fresh.0 (mirrored d.0 e.0 k)) i j (sym one)))
+        ∙ rest (insert_user w found)
+
+pub users_of_into : (es : List Entry) → AllFresh es → users_of es ≡ users_into es []
+users_of_into [] h = refl
+users_of_into (e ∷ es) h = by_user (user_in e) refl (users_of_into es h.1)
+  where
+    by_user : (p : Option (ℕ × List ℕ)) → user_in e ≡ p → users_of es ≡ users_into es []
+        → option_and_then (λ u. option_map (insert_user u) (users_of es)) p ≡ option_and_then (λ u. users_into es (insert_user u [])) p
+    by_user None j rest = refl
+    by_user (Some u) j rest = ap (option_map (insert_user u)) rest ∙ sym (into_insert e u j es [] h.0)
 
 step : (e d : Entry) (p q : Option (ℕ × List ℕ)) (es more : List Entry) (found : List (ℕ × List ℕ)) → user_in e ≡ p → user_in d ≡ q → (slice_cmp nat_cmp d.0 e.0 ≡ Equal → ⊥)
     → ((f : List (ℕ × List ℕ)) → users_into more f ≡ option_and_then (λ n. users_into es (insert_user n f)) q)
@@ -135,7 +172,36 @@ none_fresh : (us : List (ℕ × List ℕ)) → AreFresh us []
 none_fresh [] = tt
 none_fresh (u ∷ us) = (tt, none_fresh us)
 
+fresh_insert : (j k : List ℕ) (v : Value) (es : List Entry) → (slice_cmp nat_cmp j k ≡ Equal → ⊥) → IsFresh j es
+    → IsFresh j (insert_entry (slice_cmp nat_cmp) es k v)
+fresh_insert j k v [] n h = (n, tt)
+fresh_insert j k v (e ∷ es) n h =
+    let Goal : Ordering → Type 0 = λ o. IsFresh j (match_ordering o ((k, v) ∷ e ∷ es) ((e.0, v) ∷ es) (e ∷ insert_entry (slice_cmp nat_cmp) es k v)) in
+    elim (slice_cmp nat_cmp k e.0) as Goal [
+      | Less ↦ (n, h)
+      | Equal ↦ (h.0, h.1)
+      | Greater ↦ (h.0, fresh_insert j k v es n h.1)
+    ]
+
+all_fresh_insert : (k : List ℕ) (v : Value) (es : List Entry) → IsFresh k es → AllFresh es → AllFresh (insert_entry (slice_cmp nat_cmp) es k v)
+all_fresh_insert k v [] h all = (tt, tt)
+all_fresh_insert k v (e ∷ es) h all =
+    let Goal : Ordering → Type 0 = λ o. AllFresh (match_ordering o ((k, v) ∷ e ∷ es) ((e.0, v) ∷ es) (e ∷ insert_entry (slice_cmp nat_cmp) es k v)) in
+    elim (slice_cmp nat_cmp k e.0) as Goal [
+      | Less ↦ (h, all)
+      | Equal ↦ (all.0, all.1)
+      | Greater ↦ (fresh_insert e.0 k v es (λ q. h.0 (mirrored e.0 k q)) all.0, all_fresh_insert k v es h.1 all.1)
+    ]
+
+merged_fresh : (us : List (ℕ × List ℕ)) (es : List Entry) → AreActors us → AreDistinct us → AreFresh us es → AllFresh es
+    → AllFresh (merged es (map user_out us))
+merged_fresh [] es r d h all = all
+merged_fresh (u ∷ us) es r d h all =
+    merged_fresh us (insert_entry (slice_cmp nat_cmp) es (decimal u.0) (user_value u.1)) r.1 d.1
+      (all_fresh_put u.0 (user_value u.1) us r.0 r.1 d.0 es h.1) (all_fresh_insert (decimal u.0) (user_value u.1) es h.0 all)
+
 pub users_again : (us : List (ℕ × List ℕ)) → IsRising us → AreActors us → as_users (object_of (map user_out us)) ≡ Some us
 users_again us rising actors =
-    ap (λ ms. users_into ms []) (fields_list-fields_of (merged [] (map user_out us)))
+    ap users_of (fields_list-fields_of (merged [] (map user_out us)))
+    ∙ users_of_into (merged [] (map user_out us)) (merged_fresh us [] actors (distinct us rising) (none_fresh us) tt)
     ∙ users-merged us [] [] actors (distinct us rising) (none_fresh us) ∙ ap Some (insert_all-rising us rising)

@@ -21,13 +21,13 @@ name_in v = or_empty (option_and_then as_text (field_of (codes "name") v))
 abbrev pub user_in : List ℕ × Value → Option (ℕ × List ℕ)
 user_in e = option_and_then (λ n. option_map (λ ms. (n, name_in e.1)) (as_members e.1)) (number_in 4294967295 e.0)
 
--- the users found before, with these
-abbrev pub users_into : List (List ℕ × Value) → List (ℕ × List ℕ) → Option (List (ℕ × List ℕ))
-users_into [] found = Some found
-users_into (e ∷ es) found = option_and_then (λ u. users_into es (insert_user u found)) (user_in e)
+-- the users that members tell, as the entries of a map from actor to name
+abbrev pub users_of : List (List ℕ × Value) → Option (List (ℕ × List ℕ))
+users_of [] = Some []
+users_of (e ∷ es) = option_and_then (λ u. option_map (insert_user u) (users_of es)) (user_in e)
 
 abbrev pub as_users : Value → Option (List (ℕ × List ℕ))
-as_users v = option_and_then (λ ms. users_into ms []) (as_members v)
+as_users v = option_and_then users_of (as_members v)
 
 -- rising actors
 abbrev pub IsRising : List (ℕ × List ℕ) → Type 0

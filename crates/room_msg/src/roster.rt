@@ -1,15 +1,19 @@
 //! The users of a room state as they are read.
 ghost use Rattle.std.specs.Prelude.{◌≡◌, ◌≤◌, [], IfOk, IfErr, OnOk, Ok, length};
+ghost use Rattle.std.specs.Cmp.Lexicographic.{slice_cmp};
+ghost use Rattle.std.specs.List.Sorted.{IsStrictlySortedBy};
+ghost use Rattle.std.specs.Map.{keys_of};
+ghost use Rattle.std.specs.Ordering.{nat_cmp};
 ghost use Rattle.room_ids.specs.Ids.{number_in};
 ghost use Rattle.room_json.specs.View.{json_of, members_view};
 ghost use Rattle.room_msg.specs.Msg.{at, IsFaultOf};
-ghost use Rattle.room_msg.specs.Users.{users_into, user_in, insert_user, place_of, name_in, as_users};
+ghost use Rattle.room_msg.specs.Users.{users_of, user_in, insert_user, place_of, name_in, as_users};
 
 use crate::fields::wrong;
 use crate::reason::MsgFault;
 use crate::users::Users;
 use room_ids::{MAX_ACTOR, read_number};
-use room_json::{Copied, Json, NoMemory, Text, field};
+use room_json::{Copied, Json, NoMemory, Sound, Text, field};
 use std::alloc::Global;
 use std::collections::BTreeMap;
 
@@ -70,7 +74,8 @@ fn read_user(alloc: Global, name: &Text, v: &Json) -> Result<Option<(u32, Text)>
 
 /// The actors with their names, or None where one is wrong.
 fn read_entries(alloc: Global, map: &BTreeMap<Text, Json>) -> Result<Option<Users>, NoMemory>
-    ensures { IfOk result (λ found. users_into (members_view map.now.entries) [] ≡ found) }
+    requires { IsStrictlySortedBy (slice_cmp nat_cmp) (keys_of (members_view map.now.entries)) }
+    ensures { IfOk result (λ found. users_of (members_view map.now.entries) ≡ found) }
 {
     let mut found = Users::new(alloc);
     for (name, item) in map.iter() {
@@ -86,7 +91,10 @@ fn read_users(alloc: Global, v: &Json) -> Result<Option<Users>, NoMemory>
     ensures { IfOk result (λ found. as_users (json_of v.now) ≡ found) }
 {
     match v.as_object() {
-        Some(users) => read_entries(alloc, users.as_map()),
+        Some(users) => {
+            users.sound();
+            read_entries(alloc, users.as_map())
+        }
         None => Ok(None),
     }
 }

@@ -1,6 +1,6 @@
 use Rattle.std.proofs.Common.{◌≡◌, []}
 use Rattle.room_json.specs.View.{members_view}
-use Rattle.room_msg.specs.Users.{users_into}
+use Rattle.room_msg.proofs.Swaps.{users_into}
 use Rattle.room_msg.proofs.roster.read_entries.Given as goal
 
 abbrev pub invariant-loop-name : goal.invariant-loop-name
