@@ -1,0 +1,9 @@
+mod Choosing
+mod SoFar
+mod Onward
+mod Freshened
+mod Resting
+mod Gates
+mod Renewing
+mod Written
+mod Causing

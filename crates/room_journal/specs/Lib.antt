@@ -1,0 +1,9 @@
+pub mod Records
+pub mod Files
+pub mod Rest
+pub mod Appends
+pub mod Fresh
+pub mod Found
+pub mod Causes
+pub use Rattle.room_disk.specs.Model
+pub use Rattle.room_disk.specs.Stops
