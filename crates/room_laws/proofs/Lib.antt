@@ -33,6 +33,7 @@ mod Joins
 mod Keep
 mod Leaving
 mod Links
+mod Listed
 mod MadeNodes
 mod MadePositions
 mod Maps
@@ -57,7 +58,16 @@ mod Reports
 mod Resumes
 mod Reversals
 mod Reversed
+mod RootTrees
 mod RunSteps
+mod SampleAlone
+mod SampleRun
+mod SampleUndo
+mod SceneDowns
+mod SceneMoves
+mod SceneTests
+mod Scenes
+mod SceneUps
 mod Slots
 mod Sends
 mod Sent

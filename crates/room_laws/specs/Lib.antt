@@ -1,5 +1,6 @@
 pub mod Accounts
 pub mod Alone
+pub mod AloneSample
 pub mod Always
 pub mod Back
 pub mod Bounds
@@ -15,6 +16,8 @@ pub mod Moves
 pub mod Open
 pub mod Queues
 pub mod Reports
+pub mod Sample
 pub mod Undo
+pub mod UndoSample
 pub mod Undoing
 pub mod Validity

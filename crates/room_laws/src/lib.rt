@@ -6,6 +6,7 @@
 
 mod accounts;
 mod runs;
+mod samples;
 
 pub use accounts::{history_bounded, keeps_clocks, keeps_open, keeps_sound, undoes_alone};
 pub use runs::{
@@ -13,3 +14,4 @@ pub use runs::{
     each_undo_alone, each_undone, follows_events, log_grows, report_in_order, runs_singly,
     sound_accounts, valid_run,
 };
+pub use samples::{alone_is_met, premises_are_met, undo_is_met};
