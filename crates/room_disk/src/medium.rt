@@ -89,6 +89,7 @@ impl Medium {
         ensures counted { OnOk result (length self.new.entries.items ≡ length self.old.entries.items + 1) }
         ensures steps { StepsTo file (ChangedInPart change) self.old.entries.items self.new.entries.items }
         ensures grown { Extends self.old.entries.items self.new.entries.items }
+        ensures err { OnErr result (self.new.entries.items ≡ self.old.entries.items) }
         ensures cause { IfErr result (λ e. e ≡ DiskFault.Memory) }
     {
         self.entries.reserve(1)?;
@@ -100,6 +101,7 @@ impl Medium {
     /// Notes a change that was not made.
     pub(crate) fn refuse(&mut self, file: u32, change: FileChange) -> Result<(), DiskFault>
         ensures same { seen_of self.new.entries.items file ≡ seen_of self.old.entries.items file }
+        ensures counted { OnOk result (length self.new.entries.items ≡ length self.old.entries.items + 1) }
         ensures steps { StepsTo file (ChangedInPart change) self.old.entries.items self.new.entries.items }
         ensures grown { Extends self.old.entries.items self.new.entries.items }
         ensures cause { IfErr result (λ e. e ≡ DiskFault.Memory) }
@@ -114,6 +116,7 @@ impl Medium {
         ensures counted { OnOk result (length self.new.entries.items ≡ length self.old.entries.items + 1) }
         ensures steps { StepsTo file Same self.old.entries.items self.new.entries.items }
         ensures grown { Extends self.old.entries.items self.new.entries.items }
+        ensures err { OnErr result (self.new.entries.items ≡ self.old.entries.items) }
         ensures cause { IfErr result (λ e. e ≡ DiskFault.Memory) }
     {
         self.entries.reserve(1)?;
@@ -131,6 +134,7 @@ impl Medium {
         ensures bound { OnOk result (at + length bytes.now < 2 ^ 62) }
         ensures full { 2 ^ 62 ≤ at + length bytes.now → self.new.entries ≡ self.old.entries }
         ensures grown { Extends self.old.entries.items self.new.entries.items }
+        ensures err { OnErr result (self.new.entries.items ≡ self.old.entries.items) }
         ensures cause { IfErr result (λ e. e ≡ DiskFault.Memory) }
     {
         if is_past_bound(at, bytes) {
@@ -143,6 +147,8 @@ impl Medium {
     /// Notes a write that was not made; one past the bound changes nothing in any case.
     pub(crate) fn refuse_write(&mut self, file: u32, at: u64, bytes: &[u8]) -> Result<(), DiskFault>
         ensures same { seen_of self.new.entries.items file ≡ seen_of self.old.entries.items file }
+        ensures counted { at + length bytes.now < 2 ^ 62
+            → OnOk result (length self.new.entries.items ≡ length self.old.entries.items + 1) }
         ensures steps { StepsTo file (WrittenInPart at (length bytes.now))
             self.old.entries.items self.new.entries.items }
         ensures full { 2 ^ 62 ≤ at + length bytes.now → self.new.entries ≡ self.old.entries }

@@ -1,6 +1,6 @@
 //! A disk in memory, some of whose calls fail.
 ghost use Rattle.std.specs.Prelude.{◌≡◌, [], ℕ, List, true, false, length, take};
-ghost use Rattle.std.specs.Prelude.{drop, ◌<◌, ◌≤◌, ◌+◌, ◌^◌, IfOk, OnOk, IfErr};
+ghost use Rattle.std.specs.Prelude.{drop, ◌<◌, ◌≤◌, ◌+◌, ◌^◌, IfOk, OnOk, OnErr, IfErr};
 ghost use Rattle.room_edge.specs.Memory.{no_calls, is_to_fail};
 ghost use Rattle.room_disk.specs.Failing.{lifted, Counts};
 ghost use Rattle.room_disk.specs.Model.{written, WrittenInPart, CutInPart, Same};
@@ -123,6 +123,9 @@ impl Disk for MemDisk {
         ensures full { 2 ^ 62 ≤ at + length bytes.now → record_of self.new ≡ record_of self.old }
         ensures grown { Extends (record_of self.old) (record_of self.new) }
         ensures calls { Counts (calls_of self.old) (calls_of self.new) }
+        ensures undone { OnErr result (seen_of (record_of self.new) file ≡ seen_of (record_of self.old) file) }
+        ensures noted { at + length bytes.now < 2 ^ 62 → IfErr result (λ e. e ≡ DiskFault.Failed
+            → length (record_of self.new) ≡ length (record_of self.old) + 1) }
         ensures ok { OnOk result (is_to_fail (calls_of self.old) ≡ false) }
         ensures failed { IfErr result (λ e. e ≡ DiskFault.Failed → is_to_fail (calls_of self.old) ≡ true) }
     {
@@ -140,6 +143,9 @@ impl Disk for MemDisk {
         ensures steps { StepsTo file (CutInPart len) (record_of self.old) (record_of self.new) }
         ensures grown { Extends (record_of self.old) (record_of self.new) }
         ensures calls { Counts (calls_of self.old) (calls_of self.new) }
+        ensures undone { OnErr result (seen_of (record_of self.new) file ≡ seen_of (record_of self.old) file) }
+        ensures noted { IfErr result (λ e. e ≡ DiskFault.Failed
+            → length (record_of self.new) ≡ length (record_of self.old) + 1) }
         ensures ok { OnOk result (is_to_fail (calls_of self.old) ≡ false) }
         ensures failed { IfErr result (λ e. e ≡ DiskFault.Failed → is_to_fail (calls_of self.old) ≡ true) }
     {
@@ -156,6 +162,7 @@ impl Disk for MemDisk {
         ensures steps { StepsTo file Same (record_of self.old) (record_of self.new) }
         ensures grown { Extends (record_of self.old) (record_of self.new) }
         ensures calls { Counts (calls_of self.old) (calls_of self.new) }
+        ensures undone { OnErr result (record_of self.new ≡ record_of self.old) }
         ensures ok { OnOk result (is_to_fail (calls_of self.old) ≡ false) }
         ensures failed { IfErr result (λ e. e ≡ DiskFault.Failed → is_to_fail (calls_of self.old) ≡ true) }
     {

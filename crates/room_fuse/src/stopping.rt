@@ -62,6 +62,7 @@ pub trait Stopping: Disk {
             → Only (Self.seen self.new f) (Self.images self.new (Self.moment self.new) f)) }
         // After an `Err` it can be settled again, to the same end.
         ensures still { OnErr result ((Self.stopped self.new ≡ Self.stopped self.old) × (way self.new ≡ way self.old)) }
+        ensures count { OnErr result (armed self.new ≡ armed self.old) }
         ensures again { Self.tells ≡ true → OnErr result ((f : ℕ) → Self.leaves self.new (ends self.new) f
             ≡ Self.leaves self.old (ends self.old) f) }
         // Each image, at each moment within, is one that the stop may leave.
