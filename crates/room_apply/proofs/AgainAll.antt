@@ -25,5 +25,6 @@ again_all t f (c ∷ cs) h =
       formed = a.formed;
       back = turned_last (turned u c) rs d ∙ ap (λ (v : Nodes). turned_all v rs) a.back ∙ r.back;
       can = last_can (turned u c) rs d a.can (subst (λ (v : Nodes). CanTurnAll v rs) (sym a.back) r.can);
-      same = reverse_last (turned u c) rs d ∙ ap (λ (v : Nodes). reverse (turned u c) d ∷ reverse_all v rs) a.back ∙ ap (λ e. e ∷ reverse_all u rs) a.same ∙ ap (λ es. c ∷ es) r.same;
+      same = reverse_last (turned u c) rs d ∙ ap (λ (v : Nodes). reverse (turned u c) d ∷ reverse_all v rs) a.back
+          ∙ ap (λ e. e ∷ reverse_all u rs) a.same ∙ ap (λ es. c ∷ es) r.same;
     }

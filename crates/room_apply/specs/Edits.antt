@@ -1,5 +1,5 @@
 -- Changes of a tree that can be taken back, and made again.
-use Rattle.std.specs.Prelude.{◌≡◌, ◌+◌, ◌-◌, ◌<◌, ℕ, List, [], ◌∷◌, ◌++◌}
+use Rattle.std.specs.Prelude.{◌≡◌, ◌+◌, ◌-◌, ◌<◌, ℕ, List, [], ◌∷◌, ◌++◌, Option, Some, None}
 use Rattle.room_nodes.specs.Shape.{Nodes}
 use Rattle.room_nodes.specs.Turns.{turned, reverse, CanTurn}
 use Rattle.room_nodes.specs.declared.turns.Turn.{Turn}
@@ -18,6 +18,33 @@ CanTurnAll t (c ∷ cs) = CanTurn (turned_all t cs) c × CanTurnAll t cs
 abbrev pub reverse_all : Nodes → List Turn → List Turn
 reverse_all t [] = []
 reverse_all t (c ∷ cs) = reverse_all t cs ++ reverse (turned_all t cs) c ∷ []
+
+-- a change or none
+abbrev pub some_turn : Option Turn → List Turn
+some_turn None = []
+some_turn (Some c) = c ∷ []
+
+-- how many of them put a node, and how many take one out
+
+abbrev pub put_count : Turn → ℕ
+put_count (Put x n) = 1
+put_count (Cut x) = 0
+put_count (Fields x fs) = 0
+put_count (Key x k) = 0
+
+abbrev pub cut_count : Turn → ℕ
+cut_count (Put x n) = 0
+cut_count (Cut x) = 1
+cut_count (Fields x fs) = 0
+cut_count (Key x k) = 0
+
+abbrev pub puts_in : List Turn → ℕ
+puts_in [] = 0
+puts_in (c ∷ cs) = put_count c + puts_in cs
+
+abbrev pub cuts_in : List Turn → ℕ
+cuts_in [] = 0
+cuts_in (c ∷ cs) = cut_count c + cuts_in cs
 
 -- the spare places on the way
 

@@ -1,7 +1,10 @@
 pub mod Edits
 pub mod Left
 pub mod Ways
+pub mod Within
 pub use Rattle.room_json.specs.View
+pub use Rattle.room_nodes.specs.Cells
+pub use Rattle.room_nodes.specs.Ordered
 pub use Rattle.room_nodes.specs.Primitives
 pub use Rattle.room_nodes.specs.Shape
 pub use Rattle.room_nodes.specs.Steps

@@ -1,10 +1,12 @@
-ghost use Rattle.std.specs.Prelude.{◌≡◌, ◌≢◌, ◌≤◌, ℕ, OnOk, is_some, true};
+//! A node that goes with all that lies below it.
+ghost use Rattle.std.specs.Prelude.{◌≡◌, ◌≢◌, OnOk, is_some, true};
 ghost use Rattle.std.specs.FinMap.{get};
-ghost use Rattle.room_nodes.specs.Shape.{Nodes, removed, up};
+ghost use Rattle.room_nodes.specs.Shape.{removed, up};
 ghost use Rattle.room_apply.specs.Edits.{KeepsUndo};
+ghost use Rattle.room_apply.specs.Within.{ArePuts};
 ghost use Rattle.room_ids.specs.declared.ids.NodeId.TheVariants.{Root as TheRoot};
 
-use crate::turning::change;
+use crate::turning::cut_leaf;
 use room_ids::{NodeId, same_id};
 use room_json::NoMemory;
 use room_nodes::Turn;
@@ -25,8 +27,9 @@ pub(crate) fn cut<T: Tree>(t: &mut T, x: &NodeId, done: &mut Vec<Turn>) -> Resul
     requires there { is_some (get (T.nodes t.old) x.now) ≡ true }
     requires made { x.now ≢ TheRoot }
     ensures ok { OnOk result (T.nodes t.new ≡ removed (T.nodes t.old) x.now) }
-    ensures undo { KeepsUndo (T.nodes t.old) (T.spare t.old) done.old.items (T.nodes t.new) (T.spare t.new) done.new.items }
-    ensures spare { T.spare t.old ≤ T.spare t.new }
+    ensures puts { ArePuts done.old.items → ArePuts done.new.items }
+    ensures undo { KeepsUndo (T.nodes t.old) (T.spare t.old) done.old.items (T.nodes t.new)
+        (T.spare t.new) done.new.items }
 {
     let mut at = *x;
     loop {
@@ -34,7 +37,7 @@ pub(crate) fn cut<T: Tree>(t: &mut T, x: &NodeId, done: &mut Vec<Turn>) -> Resul
             Some(child) => at = child,
             None => {
                 let parent = parent_at(t, &at);
-                change(t, Turn::Cut(at), done)?;
+                cut_leaf(t, at, done)?;
                 if same_id(&at, x) {
                     return Ok(());
                 }

@@ -1,12 +1,16 @@
-//! Steps of a tree, and the way back and forth.
+//! Steps of a tree, and the way back and forth, also among other steps.
 #![tactic(auto)]
 
 mod acting;
 mod cutting;
+mod edits;
+mod fitting;
+mod laws;
 mod slots;
 mod stepping;
-#[cfg(test)]
-mod tests;
 mod turning;
 
-pub use stepping::{Edits, back, forth, step};
+pub use edits::{Edits, back, forth};
+pub use fitting::fit;
+pub use laws::{may_go_back, may_go_forth, one_map};
+pub use stepping::step;

@@ -1,16 +1,19 @@
-ghost use Rattle.std.specs.Prelude.{◌≡◌, ◌≤◌, OnOk, IfOk, true, None, Some};
+//! The slots of a node: children that go, and fields that are left.
+ghost use Rattle.std.specs.Prelude.{◌≡◌, ◌∷◌, [], OnOk, IfOk, true, None, Some};
 ghost use Rattle.std.specs.Option.{option_copied};
 ghost use Rattle.std.specs.FinMap.{get};
 ghost use Rattle.room_json.specs.View.{members_view};
-ghost use Rattle.room_nodes.specs.Steps.{changed, on_fields, without_child, without_children, without_replaced, without_field, with_fields, holds_object};
+ghost use Rattle.room_nodes.specs.Steps.{without_child, without_children, without_replaced, without_field, with_fields};
+ghost use Rattle.room_nodes.specs.Steps.{holds_object};
 ghost use Rattle.room_nodes.specs.Primitives.{fields_in};
 ghost use Rattle.room_apply.specs.Edits.{KeepsUndo};
 ghost use Rattle.room_apply.specs.Left.{fields_left};
+ghost use Rattle.room_apply.specs.Within.{ArePuts};
+ghost use Rattle.room_json.specs.Value.{nothing};
 
 use crate::cutting::cut;
-use crate::turning::change;
 use room_ids::NodeId;
-use room_json::{Json, Members, NoMemory, Text, merge};
+use room_json::{Copied, Json, Members, NoMemory, Text, merge};
 use room_nodes::{Kind, Turn};
 use room_tree::{Tree, is_child_of};
 use std::alloc::Global;
@@ -24,8 +27,9 @@ pub(crate) fn cut_at<T: Tree>(
     done: &mut Vec<Turn>,
 ) -> Result<(), NoMemory>
     ensures ok { OnOk result (T.nodes t.new ≡ without_child (T.nodes t.old) parent.now key.now) }
-    ensures undo { KeepsUndo (T.nodes t.old) (T.spare t.old) done.old.items (T.nodes t.new) (T.spare t.new) done.new.items }
-    ensures spare { T.spare t.old ≤ T.spare t.new }
+    ensures puts { ArePuts done.old.items → ArePuts done.new.items }
+    ensures undo { KeepsUndo (T.nodes t.old) (T.spare t.old) done.old.items (T.nodes t.new)
+        (T.spare t.new) done.new.items }
 {
     match t.child_at(parent, key) {
         Some(child) => cut(t, &child, done),
@@ -40,9 +44,11 @@ pub(crate) fn cut_replaced<T: Tree>(
     replaces: Option<&NodeId>,
     done: &mut Vec<Turn>,
 ) -> Result<(), NoMemory>
-    ensures ok { OnOk result (T.nodes t.new ≡ without_replaced (T.nodes t.old) parent.now (option_copied replaces.entry)) }
-    ensures undo { KeepsUndo (T.nodes t.old) (T.spare t.old) done.old.items (T.nodes t.new) (T.spare t.new) done.new.items }
-    ensures spare { T.spare t.old ≤ T.spare t.new }
+    ensures ok { OnOk result (T.nodes t.new ≡ without_replaced (T.nodes t.old) parent.now
+        (option_copied replaces.entry)) }
+    ensures puts { ArePuts done.old.items → ArePuts done.new.items }
+    ensures undo { KeepsUndo (T.nodes t.old) (T.spare t.old) done.old.items (T.nodes t.new)
+        (T.spare t.new) done.new.items }
 {
     match replaces {
         Some(x) => {
@@ -63,8 +69,11 @@ pub(crate) fn cut_names<T: Tree>(
     names: &BTreeMap<Text, Json>,
     done: &mut Vec<Turn>,
 ) -> Result<(), NoMemory>
-    ensures ok { OnOk result (T.nodes t.new ≡ without_children (T.nodes t.old) parent.now (members_view names.now.entries)) }
-    ensures undo { KeepsUndo (T.nodes t.old) (T.spare t.old) done.old.items (T.nodes t.new) (T.spare t.new) done.new.items }
+    ensures ok { OnOk result (T.nodes t.new ≡ without_children (T.nodes t.old) parent.now
+        (members_view names.now.entries)) }
+    ensures puts { ArePuts done.old.items → ArePuts done.new.items }
+    ensures undo { KeepsUndo (T.nodes t.old) (T.spare t.old) done.old.items (T.nodes t.new)
+        (T.spare t.new) done.new.items }
 {
     for (name, _) in names.iter() {
         cut_at(t, parent, name, done)?;
@@ -84,7 +93,7 @@ fn without(alloc: Global, fields: &Members, key: &Text) -> Result<Members, NoMem
 }
 
 /// The fields of an object without one of them, where it has it.
-fn fields_without<T: Tree>(
+pub(crate) fn fields_without<T: Tree>(
     alloc: Global,
     t: &T,
     id: &NodeId,
@@ -106,22 +115,13 @@ fn fields_without<T: Tree>(
     }
 }
 
-/// Takes a field of an object out.
-pub(crate) fn clear_field<T: Tree>(
-    alloc: Global,
-    t: &mut T,
-    id: &NodeId,
-    key: &Text,
-    done: &mut Vec<Turn>,
-) -> Result<(), NoMemory>
-    ensures ok { OnOk result (T.nodes t.new ≡ changed (T.nodes t.old) id.now (on_fields (without_field key.now))) }
-    ensures undo { KeepsUndo (T.nodes t.old) (T.spare t.old) done.old.items (T.nodes t.new) (T.spare t.new) done.new.items }
-    ensures spare { T.spare t.old ≤ T.spare t.new }
+/// A name alone, as the only member.
+pub(crate) fn name_of(alloc: Global, key: &Text) -> Result<Members, NoMemory>
+    ensures { IfOk result (λ m. m ≡ (key.now, nothing) ∷ []) }
 {
-    match fields_without(alloc, t, id, key)? {
-        Some(fields) => change(t, Turn::Fields(*id, fields), done),
-        None => Ok(()),
-    }
+    let mut names = Members::new(alloc);
+    drop(names.set(key.copy(alloc)?, Json::Null)?);
+    Ok(names)
 }
 
 /// The fields of an object with those of a patch.

@@ -1,84 +1,73 @@
-ghost use Rattle.std.specs.Prelude.{◌≡◌, ◌≤◌, ◌<◌, ◌+◌, ℕ, [], vec_len, vec_capacity, IfOk, OnOk, OnErr, true, false};
-ghost use Rattle.room_nodes.specs.Shape.{Nodes};
+//! A step: an operation settles, what it removes goes, and what is left of it is done.
+ghost use Rattle.std.specs.Prelude.{◌≡◌, ◌≤◌, ◌+◌, [], vec_len, vec_capacity, None, IfOk, OnOk, OnErr, true, false};
+ghost use Rattle.std.specs.FinMap.{len};
 ghost use Rattle.room_nodes.specs.Steps.{effect, is_void, settled_body, step as step_of};
-ghost use Rattle.room_apply.specs.Edits.{KeepsUndo};
-ghost use Rattle.room_nodes.specs.Shape.{IsFree};
-ghost use Rattle.std.specs.FinMap.{insert};
-ghost use Rattle.room_apply.specs.Ways.{BackFrom, GoesBack, GoesForth, CanGoBack, CanGoForth};
+ghost use Rattle.room_apply.specs.Edits.{CanTurnAll, HasPlaces, KeepsUndo, places_all, some_turn, turned_all};
+ghost use Rattle.room_apply.specs.Left.{lefts};
+ghost use Rattle.room_apply.specs.Ways.{AreEdits, CanGoBack, node_count, nodes_of, stepped};
 
-use crate::acting::act;
-use crate::turning::{keep, make_room, turn, turn_all, undo_all};
-use room_ids::NodeId;
-use room_json::NoMemory;
-use room_nodes::{Body, Node, Op, Turn};
+use crate::acting::{Left, act};
+use crate::edits::{Edits, count_of};
+use crate::turning::{make_room, turn_one, undo_all};
+use room_json::{Members, NoMemory};
+use room_nodes::{Body, Op, Turn};
 use room_tree::{Tree, live};
 use std::alloc::Global;
-use std::marker::Model;
-
-/// What takes a step back, and makes it again. It has the memory for both.
-#[derive(Drop)]
-pub struct Edits {
-    done: Vec<Turn>,
-    undone: Vec<Turn>,
-}
-
-impl Model for Edits {
-    ghost use Rattle.std.specs.Prelude.{◌≤◌, ◌+◌, vec_len, vec_capacity};
-    ghost use Rattle.room_apply.specs.Ways.{Way};
-    ghost use Rattle.std.specs.Coded.{codes};
-    ghost use Rattle.room_nodes.specs.contracts.turns.Turn as turn;
-
-    ghost Value = { Way };
-
-    ghost coded = { Prim.hlevel (codes, turn.the_row.coded) };
-
-    ghost view = { λ e. record { done = e.done.items; undone = e.undone.items } };
-
-    ghost invariant = { λ e. (vec_len e.done + vec_len e.undone ≤ vec_capacity e.done) × (vec_len e.done + vec_len e.undone ≤ vec_capacity e.undone) };
-}
 
 /// The edits of a void step.
 fn no_edits(alloc: Global) -> Edits
-    ensures { result ≡ record { done = []; undone = [] } }
+    ensures { result ≡ record { done = []; undone = []; fields = None; last = None; names = [] } }
 {
     Edits {
         done: Vec::new(alloc),
         undone: Vec::new(alloc),
+        fields: None,
+        last: None,
+        names: Members::new(alloc),
     }
 }
 
-/// The edits of a step, where there is memory for the way forth.
-fn edits_of(alloc: Global, done: &mut Vec<Turn>) -> Result<Edits, NoMemory>
-    ensures ok { IfOk result (λ e. e ≡ record { done = done.old.items; undone = [] }) }
-    ensures err { OnErr result (done.new.items ≡ done.old.items) }
+/// Does what is left of an operation, for which there is memory, and answers the edits.
+fn finish<T: Tree>(t: &mut T, left: Left, done: Vec<Turn>, undone: Vec<Turn>) -> Edits
+    requires can { CanTurnAll (T.nodes t.old) (lefts left.fields left.last) }
+    requires place { HasPlaces (T.spare t.old) (lefts left.fields left.last) }
+    requires room { vec_len done ≤ vec_capacity undone }
+    requires empty { undone.items ≡ [] }
+    ensures nodes { T.nodes t.new ≡ turned_all (T.nodes t.old) (lefts left.fields left.last) }
+    ensures spare { T.spare t.new ≡ places_all (T.spare t.old) (lefts left.fields left.last) }
+    ensures edits { result ≡ stepped (T.nodes t.old) done.items left.fields left.last left.names }
 {
-    let mut undone: Vec<Turn> = Vec::new(alloc);
-    make_room(&mut undone, done.len())?;
-    let done = std::mem::replace(done, Vec::new(alloc));
-    Ok(Edits { done, undone })
+    let mut fields = left.fields;
+    let mut last = left.last;
+    turn_one(t, &mut fields);
+    turn_one(t, &mut last);
+    Edits {
+        done,
+        undone,
+        fields,
+        last,
+        names: left.names,
+    }
 }
 
-/// Puts the node that is left of a step, where there is memory for it and for the way forth.
-fn put_last<T: Tree>(
+/// Takes the memory for what is left of a step that removed so many nodes, and for the way back and forth.
+fn make_ready<T: Tree>(
     alloc: Global,
     t: &mut T,
-    id: NodeId,
-    node: Node,
-    done: &mut Vec<Turn>,
-) -> Result<Edits, NoMemory>
-    requires free { IsFree (T.nodes t.old) id node }
-    ensures ok { OnOk result (T.nodes t.new ≡ insert (T.nodes t.old) id node) }
-    ensures err { OnErr result ((T.nodes t.new ≡ T.nodes t.old) × ((T.spare t.new ≡ T.spare t.old) × (done.new.items ≡ done.old.items))) }
-    ensures back { IfOk result (λ e. BackFrom (T.nodes t.old) (T.spare t.old) done.old.items (T.nodes t.new) (T.spare t.new) e) }
+    last: &Option<Turn>,
+    removed: usize,
+) -> Result<Vec<Turn>, NoMemory>
+    ensures nodes { T.nodes t.new ≡ T.nodes t.old }
+    ensures kept { T.spare t.old ≤ T.spare t.new }
+    ensures ok { OnOk result (removed + node_count last.now + node_count last.now ≤ T.spare t.new) }
+    ensures err { OnErr result (T.spare t.new ≡ T.spare t.old) }
+    ensures undone { IfOk result (λ v. (v.items ≡ []) × (removed ≤ vec_capacity v)) }
 {
-    make_room(done, 1)?;
     let mut undone: Vec<Turn> = Vec::new(alloc);
-    make_room(&mut undone, done.len() + 1)?;
-    t.reserve(1)?;
-    let back = turn(t, Turn::Put(id, node));
-    keep(done, back);
-    let all = std::mem::replace(done, Vec::new(alloc));
-    Ok(Edits { done: all, undone })
+    make_room(&mut undone, removed)?;
+    let put = count_of(last);
+    t.reserve(removed as u64 + put + put)?;
+    Ok(undone)
 }
 
 /// Does what a settled operation does, as far as there is memory.
@@ -90,13 +79,24 @@ fn attempt<T: Tree>(
 ) -> Result<Edits, NoMemory>
     requires live { is_void (T.nodes t.old) body ≡ false }
     requires settled { settled_body (T.nodes t.old) body ≡ body }
+    requires empty { done.old.items ≡ [] }
     ensures ok { OnOk result (T.nodes t.new ≡ effect (T.nodes t.old) body) }
-    ensures err { OnErr result (KeepsUndo (T.nodes t.old) (T.spare t.old) done.old.items (T.nodes t.new) (T.spare t.new) done.new.items) }
-    ensures back { IfOk result (λ e. BackFrom (T.nodes t.old) (T.spare t.old) done.old.items (T.nodes t.new) (T.spare t.new) e) }
+    ensures err { OnErr result (KeepsUndo (T.nodes t.old) (T.spare t.old) done.old.items (T.nodes t.new)
+        (T.spare t.new) done.new.items) }
+    ensures edits { IfOk result (λ e. AreEdits (T.nodes t.old) body (T.nodes t.new) e) }
+    ensures spare { IfOk result (λ e. nodes_of e ≤ T.spare t.new) }
+    ensures sum { OnOk result (len (T.nodes t.old) + T.spare t.old ≤ len (T.nodes t.new) + T.spare t.new) }
 {
-    match act(alloc, t, body, done)? {
-        Some((id, node)) => put_last(alloc, t, id, node, done),
-        None => edits_of(alloc, done),
+    let left = act(alloc, t, body, done)?;
+    match make_ready(alloc, t, &left.last, done.len()) {
+        Ok(undone) => {
+            let done = std::mem::replace(done, Vec::new(alloc));
+            Ok(finish(t, left, done, undone))
+        },
+        Err(NoMemory) => {
+            drop(left);
+            Err(NoMemory)
+        },
     }
 }
 
@@ -106,7 +106,9 @@ fn perform<T: Tree>(alloc: Global, t: &mut T, body: Body) -> Result<Edits, NoMem
     requires settled { settled_body (T.nodes t.old) body ≡ body }
     ensures ok { OnOk result (T.nodes t.new ≡ effect (T.nodes t.old) body) }
     ensures err { OnErr result ((T.nodes t.new ≡ T.nodes t.old) × (T.spare t.new ≡ T.spare t.old)) }
-    ensures back { IfOk result (λ e. GoesBack (T.nodes t.new) (T.spare t.new) (T.nodes t.old) (T.spare t.old) e) }
+    ensures edits { IfOk result (λ e. AreEdits (T.nodes t.old) body (T.nodes t.new) e) }
+    ensures spare { IfOk result (λ e. nodes_of e ≤ T.spare t.new) }
+    ensures sum { OnOk result (len (T.nodes t.old) + T.spare t.old ≤ len (T.nodes t.new) + T.spare t.new) }
 {
     let mut done = Vec::new(alloc);
     match attempt(alloc, t, body, &mut done) {
@@ -118,36 +120,21 @@ fn perform<T: Tree>(alloc: Global, t: &mut T, body: Body) -> Result<Edits, NoMem
     }
 }
 
-/// Steps a tree by an operation: settles it, and has its effect. A void operation changes nothing. Where memory is short
-/// the tree stays as it was, with as many spare places.
+/// Steps a map by an operation: settles it, and has its effect. A void operation changes nothing. The edits go back and
+/// forth; there are spare places for all nodes that the step removed or put. Where memory is short the map stays as it
+/// was, with as many spare places.
 pub fn step<T: Tree>(alloc: Global, t: &mut T, op: &Op) -> Result<Edits, NoMemory>
     ensures ok { OnOk result (T.nodes t.new ≡ step_of (T.nodes t.old) op.now.body) }
-    ensures void { is_void (T.nodes t.old) op.now.body ≡ true → (T.nodes t.new ≡ T.nodes t.old) × (T.spare t.new ≡ T.spare t.old) }
+    ensures void { is_void (T.nodes t.old) op.now.body ≡ true → (T.nodes t.new ≡ T.nodes t.old)
+        × (T.spare t.new ≡ T.spare t.old) }
     ensures err { OnErr result ((T.nodes t.new ≡ T.nodes t.old) × (T.spare t.new ≡ T.spare t.old)) }
-    ensures back { IfOk result (λ e. GoesBack (T.nodes t.new) (T.spare t.new) (T.nodes t.old) (T.spare t.old) e) }
+    ensures edits { IfOk result (λ e. AreEdits (T.nodes t.old) op.now.body (T.nodes t.new) e) }
+    ensures can { IfOk result (λ e. CanGoBack (T.nodes t.new) (T.spare t.new) e) }
+    ensures spare { IfOk result (λ e. nodes_of e ≤ T.spare t.new) }
+    ensures sum { len (T.nodes t.old) + T.spare t.old ≤ len (T.nodes t.new) + T.spare t.new }
 {
     match live(alloc, t, &op.body)? {
         Some(body) => perform(alloc, t, body),
         None => Ok(no_edits(alloc)),
     }
-}
-
-/// Takes a step back, on the tree that the step or `forth` left, with at least the spare places that were left then.
-/// It gives the tree before, with at least the spare places that there were before.
-pub fn back<T: Tree>(t: &mut T, e: &mut Edits)
-    requires { CanGoBack (T.nodes t.old) (T.spare t.old) e.old }
-    ensures there { (s : Nodes) (a : ℕ) (b : ℕ) → GoesBack (T.nodes t.old) b s a e.old → b ≤ T.spare t.old → (T.nodes t.new ≡ s) × (a ≤ T.spare t.new) }
-    ensures forth { GoesForth (T.nodes t.new) (T.spare t.new) (T.nodes t.old) (T.spare t.old) e.new }
-{
-    turn_all(t, &mut e.done, &mut e.undone);
-}
-
-/// Makes a step again, on the tree that `back` left, with at least the spare places that were left then.
-/// It gives the tree after the step, with at least the spare places that there were then.
-pub fn forth<T: Tree>(t: &mut T, e: &mut Edits)
-    requires { CanGoForth (T.nodes t.old) (T.spare t.old) e.old }
-    ensures there { (s : Nodes) (a : ℕ) (b : ℕ) → GoesForth (T.nodes t.old) b s a e.old → b ≤ T.spare t.old → (T.nodes t.new ≡ s) × (a ≤ T.spare t.new) }
-    ensures back { GoesBack (T.nodes t.new) (T.spare t.new) (T.nodes t.old) (T.spare t.old) e.new }
-{
-    turn_all(t, &mut e.undone, &mut e.done);
 }

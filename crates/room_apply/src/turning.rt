@@ -1,7 +1,11 @@
-ghost use Rattle.std.specs.Prelude.{◌≡◌, ◌+◌, ◌<◌, ◌≤◌, ◌++◌, ◌∷◌, [], ℕ, vec_len, vec_capacity, OnOk, OnErr};
-ghost use Rattle.room_nodes.specs.Shape.{Nodes};
+//! Changes taken back and made again.
+ghost use Rattle.std.specs.Prelude.{◌≡◌, ◌+◌, ◌<◌, ◌≤◌, ◌++◌, ◌∷◌, [], ℕ, vec_len, vec_capacity, OnOk, option_map};
+ghost use Rattle.room_nodes.specs.Shape.{IsLeaf};
+ghost use Rattle.std.specs.FinMap.{remove};
 ghost use Rattle.room_nodes.specs.Turns.{turned, reverse, CanTurn};
-ghost use Rattle.room_apply.specs.Edits.{turned_all, reverse_all, CanTurnAll, places, HasPlace, places_all, HasPlaces, KeepsUndo};
+ghost use Rattle.room_apply.specs.Edits.{turned_all, reverse_all, CanTurnAll, places, HasPlace, places_all, HasPlaces};
+ghost use Rattle.room_apply.specs.Edits.{KeepsUndo, some_turn};
+ghost use Rattle.room_apply.specs.Within.{ArePuts};
 
 use room_ids::NodeId;
 use room_json::NoMemory;
@@ -86,18 +90,34 @@ pub(crate) fn make_room(changes: &mut Vec<Turn>, more: usize) -> Result<(), NoMe
     }
 }
 
-/// Makes a change, and notes what takes it back.
-pub(crate) fn change<T: Tree>(t: &mut T, change: Turn, done: &mut Vec<Turn>) -> Result<(), NoMemory>
-    requires can { CanTurn (T.nodes t.old) change }
-    requires place { HasPlace (T.spare t.old) change }
-    ensures ok { OnOk result ((T.nodes t.new ≡ turned (T.nodes t.old) change) × (T.spare t.new ≡ places (T.spare t.old) change)) }
-    ensures err { OnErr result ((T.nodes t.new ≡ T.nodes t.old) × (T.spare t.new ≡ T.spare t.old)) }
-    ensures undo { KeepsUndo (T.nodes t.old) (T.spare t.old) done.old.items (T.nodes t.new) (T.spare t.new) done.new.items }
+/// Takes a leaf out, and notes what puts it again.
+pub(crate) fn cut_leaf<T: Tree>(t: &mut T, id: NodeId, done: &mut Vec<Turn>) -> Result<(), NoMemory>
+    requires { IsLeaf (T.nodes t.old) id }
+    ensures ok { OnOk result (T.nodes t.new ≡ remove (T.nodes t.old) id) }
+    ensures puts { ArePuts done.old.items → ArePuts done.new.items }
+    ensures undo { KeepsUndo (T.nodes t.old) (T.spare t.old) done.old.items (T.nodes t.new)
+        (T.spare t.new) done.new.items }
 {
     make_room(done, 1)?;
-    let back = turn(t, change);
+    let back = turn(t, Turn::Cut(id));
     keep(done, back);
     Ok(())
+}
+
+/// Takes one change back, if there is one, and keeps what makes it again.
+pub(crate) fn turn_one<T: Tree>(t: &mut T, change: &mut Option<Turn>)
+    requires can { CanTurnAll (T.nodes t.old) (some_turn change.old) }
+    requires place { HasPlaces (T.spare t.old) (some_turn change.old) }
+    ensures nodes { T.nodes t.new ≡ turned_all (T.nodes t.old) (some_turn change.old) }
+    ensures spare { T.spare t.new ≡ places_all (T.spare t.old) (some_turn change.old) }
+    ensures result { change.new ≡ option_map (reverse (T.nodes t.old)) change.old }
+{
+    match change.take() {
+        Some(old) => {
+            *change = Some(turn(t, old));
+        },
+        None => (),
+    }
 }
 
 /// Takes all changes back.

@@ -10,8 +10,6 @@ mod overlap;
 mod parting;
 mod rank;
 mod taking;
-#[cfg(test)]
-mod tests;
 mod voids;
 
 pub use cells::{reads, writes};

@@ -1,4 +1,5 @@
-use Rattle.std.proofs.Common.{rules, ap, ◌∙◌, ◌≡◌, sym}
+-- What is left to prove of `slots::fields_with`.
+use Rattle.std.proofs.Common.{rules, ap, ◌∙◌, ◌≡◌}
 use Rattle.std.specs.FinMap.{get}
 use Rattle.room_nodes.specs.Steps.{with_fields}
 use Rattle.room_nodes.specs.Primitives.{fields_in}

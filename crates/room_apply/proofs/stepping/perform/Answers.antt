@@ -1,9 +1,7 @@
-use Rattle.std.proofs.Common.{◌≡◌, [], List, refl, sym, ap, ◌∙◌, subst}
-use Rattle.room_apply.specs.Edits.{IsUndo, CanTurnAll, HasPlaces, turned_all, places_all}
-use Rattle.room_apply.specs.Ways.{Way, GoesBack}
+-- What is left to prove of `stepping::perform`.
+use Rattle.std.proofs.Common.{sym, ◌∙◌, subst}
+use Rattle.room_apply.specs.Edits.{IsUndo}
 use Rattle.room_apply.proofs.UndoMore.{no_changes}
-use Rattle.room_apply.proofs.Going.{way_of}
-use Rattle.room_nodes.specs.declared.turns.Turn.{Turn}
 use Rattle.room_apply.proofs.stepping.perform.Goals as goal
 
 pub undo_all-requires-clause-can : goal.undo_all-requires-clause-can
@@ -24,9 +22,3 @@ returns-clause-err g c =
     let a = g.T.Tree.spare c.args.t.now in
     let h = c.in-Err.ensures.err t a (subst (IsUndo t a t a) (sym c.new-done.ensures.items) (no_changes t a)) in
     (c.undo_all.ensures.nodes ∙ h.back, c.undo_all.ensures.spare ∙ h.places)
-
-pub returns-in-Ok-clause-back : goal.returns-in-Ok-clause-back
-returns-in-Ok-clause-back g c =
-    let t = g.T.Tree.nodes c.args.t.now in
-    let a = g.T.Tree.spare c.args.t.now in
-    c.in-Ok.ensures.back t a (subst (IsUndo t a t a) (sym c.new-done.ensures.items) (no_changes t a))
