@@ -8,8 +8,6 @@ mod misread;
 mod numbers;
 mod reading;
 mod shallow;
-#[cfg(test)]
-mod tests;
 mod writing;
 
 pub use entries::{Entries, Entry, Format, Session, Sessions};

@@ -2,7 +2,5 @@
 #![tactic(auto)]
 
 mod history;
-#[cfg(test)]
-mod tests;
 
 pub use history::{History, MAX_ENTRIES};

@@ -9,8 +9,6 @@ mod order;
 mod places;
 mod sound;
 mod spelling;
-#[cfg(test)]
-mod tests;
 
 pub use ids::{MAX_ACTOR, NodeId, OpId, Stamp};
 pub use laws::{ids_are_spelled_once, ids_read_back, positions_are_made, positions_are_ordered};

@@ -1,8 +1,6 @@
 //! A tree as items, and as the JSON that is shown of it.
 #![tactic(auto)]
 
-#[cfg(test)]
-mod counted;
 mod kids;
 mod laws;
 mod order;
@@ -11,8 +9,6 @@ mod reading;
 mod row;
 mod shape;
 mod showing;
-#[cfg(test)]
-mod tests;
 mod writing;
 
 pub use laws::{items_are_sound, items_read_back, trees_are_sound, trees_read_back};

@@ -16,8 +16,6 @@ mod parse;
 mod reading;
 mod sending;
 mod sound;
-#[cfg(test)]
-mod tests;
 mod tree;
 mod utf8;
 

@@ -14,8 +14,6 @@ mod receiving;
 mod roster;
 mod sending;
 mod serving;
-#[cfg(test)]
-mod tests;
 mod users;
 
 pub use frames::{MAX_FRAME, read_client, read_server};

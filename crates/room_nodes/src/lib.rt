@@ -6,8 +6,6 @@ mod copies;
 mod laws;
 mod nodes;
 mod sound;
-#[cfg(test)]
-mod tests;
 mod turns;
 
 pub use cells::{Cell, Cells};

@@ -2,7 +2,5 @@
 #![tactic(auto)]
 
 mod presence;
-#[cfg(test)]
-mod tests;
 
 pub use presence::Presence;

@@ -10,8 +10,6 @@ mod parts;
 mod placing;
 mod props;
 mod sound;
-#[cfg(test)]
-mod tests;
 mod weighing;
 
 pub use clocks::finish;

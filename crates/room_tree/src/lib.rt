@@ -6,8 +6,6 @@ mod living;
 mod plain;
 mod settling;
 mod taking;
-#[cfg(test)]
-mod tests;
 mod tree;
 
 pub use copies::copy_of;

@@ -6,8 +6,6 @@ mod code;
 mod fault;
 mod laws;
 mod reading;
-#[cfg(test)]
-mod tests;
 mod writing;
 
 pub use fault::{Field, WireFault};

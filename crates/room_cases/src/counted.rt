@@ -1,4 +1,4 @@
-//! A tree that counts the calls made of it, for tests.
+//! A tree that counts the calls made of it.
 use room_ids::NodeId;
 use room_json::{Members, NoMemory, Text};
 use room_nodes::Node;
