@@ -24,8 +24,9 @@ fn value_of(alloc: Global, text: &[u8]) -> Result<Json, Misread>
     }
 }
 
+/// The JSON value whose text stands at the front.
 #[tactic(auto, unfolding(crate::specs::Reading::json_at))]
-pub(crate) fn json_part(alloc: Global, bytes: &[u8]) -> Result<(Json, &[u8]), Misread>
+pub fn json_part(alloc: Global, bytes: &[u8]) -> Result<(Json, &[u8]), Misread>
     ensures { Gives (λ x. (json_of x.0, x.1.now)) result (json_at bytes.now) }
 {
     let (string, rest) = string_of(bytes)?;
@@ -69,8 +70,9 @@ fn members_of(alloc: Global, fields: Vec<(Text, Json)>) -> Result<Members, NoMem
     Ok(members)
 }
 
+/// The fields at the front, in whatever order.
 #[tactic(auto, unfolding(crate::specs::Reading::fields_at))]
-pub(crate) fn fields_of(alloc: Global, bytes: &[u8]) -> Result<(Members, &[u8]), Misread>
+pub fn fields_of(alloc: Global, bytes: &[u8]) -> Result<(Members, &[u8]), Misread>
     ensures { Gives (λ x. (x.0, x.1.now)) result (fields_at bytes.now) }
 {
     let (count, rest) = u32_of(bytes)?;

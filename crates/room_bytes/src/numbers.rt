@@ -8,8 +8,9 @@ use room_ids::{NodeId, Stamp};
 use room_json::{Text, TextFault};
 use std::alloc::Global;
 
+/// The number in four bytes at the front, and the bytes behind it.
 #[tactic(auto, unfolding(crate::specs::Reading::u32_at))]
-pub(crate) fn u32_of(bytes: &[u8]) -> Result<(u32, &[u8]), Misread>
+pub fn u32_of(bytes: &[u8]) -> Result<(u32, &[u8]), Misread>
     ensures { Gives (λ x. (x.0, x.1.now)) result (u32_at bytes.now) }
 {
     if bytes.len() < 4 {
@@ -20,8 +21,9 @@ pub(crate) fn u32_of(bytes: &[u8]) -> Result<(u32, &[u8]), Misread>
     Ok((number, rest))
 }
 
+/// The number in eight bytes at the front.
 #[tactic(auto, unfolding(crate::specs::Reading::u64_at))]
-pub(crate) fn u64_of(bytes: &[u8]) -> Result<(u64, &[u8]), Misread>
+pub fn u64_of(bytes: &[u8]) -> Result<(u64, &[u8]), Misread>
     ensures { Gives (λ x. (x.0, x.1.now)) result (u64_at bytes.now) }
 {
     if bytes.len() < 8 {
@@ -34,8 +36,9 @@ pub(crate) fn u64_of(bytes: &[u8]) -> Result<(u64, &[u8]), Misread>
     Ok((number, rest))
 }
 
+/// The first byte.
 #[tactic(auto, unfolding(crate::specs::Reading::byte_at))]
-pub(crate) fn byte_of(bytes: &[u8]) -> Result<(u8, &[u8]), Misread>
+pub fn byte_of(bytes: &[u8]) -> Result<(u8, &[u8]), Misread>
     ensures { Gives (λ x. (x.0, x.1.now)) result (byte_at bytes.now) }
 {
     match bytes {
@@ -57,8 +60,9 @@ pub(crate) fn string_of(bytes: &[u8]) -> Result<(&[u8], &[u8]), Misread>
     Ok((string, rest))
 }
 
+/// The text at the front, behind its length.
 #[tactic(auto, using(crate::proofs::Texts::texts), unfolding(crate::specs::Reading::text_at))]
-pub(crate) fn text_of(alloc: Global, bytes: &[u8]) -> Result<(Text, &[u8]), Misread>
+pub fn text_of(alloc: Global, bytes: &[u8]) -> Result<(Text, &[u8]), Misread>
     ensures { Gives (λ x. (x.0, x.1.now)) result (text_at bytes.now) }
 {
     let (string, rest) = string_of(bytes)?;
@@ -81,8 +85,9 @@ fn made_of(bytes: &[u8]) -> Result<(NodeId, &[u8]), Misread>
     }
 }
 
+/// The id at the front.
 #[tactic(auto, unfolding(crate::specs::Reading::id_at))]
-pub(crate) fn id_of(bytes: &[u8]) -> Result<(NodeId, &[u8]), Misread>
+pub fn id_of(bytes: &[u8]) -> Result<(NodeId, &[u8]), Misread>
     ensures { Gives (λ x. (x.0, x.1.now)) result (id_at bytes.now) }
 {
     let (tag, rest) = byte_of(bytes)?;
@@ -113,7 +118,7 @@ pub(crate) fn replaced_of(bytes: &[u8]) -> Result<(Option<NodeId>, &[u8]), Misre
 
 /// What is left behind these bytes, where they stand in front.
 #[tactic(auto, unfolding(crate::specs::Reading::behind))]
-pub(crate) fn behind<'a>(bytes: &'a [u8], front: &[u8]) -> Option<&'a [u8]>
+pub fn behind<'a>(bytes: &'a [u8], front: &[u8]) -> Option<&'a [u8]>
     ensures { option_map (λ x. x.now) result ≡ behind front.now bytes.now }
 {
     bytes.strip_prefix(front)

@@ -15,8 +15,9 @@ use crate::writing::put_entry;
 use room_json::{NoMemory, Sound, Text};
 use std::alloc::Global;
 
+/// The name at the front; the first format has none.
 #[tactic(auto, unfolding(crate::specs::Reading::name_at))]
-fn name_of(alloc: Global, f: Format, bytes: &[u8]) -> Result<(Text, &[u8]), Misread>
+pub fn name_of(alloc: Global, f: Format, bytes: &[u8]) -> Result<(Text, &[u8]), Misread>
     ensures { Gives (λ x. (x.0, x.1.now)) result (name_at f bytes.now) }
 {
     match f {

@@ -20,7 +20,8 @@ fn are_shallow(fields: &BTreeMap<Text, Json>) -> bool
     true
 }
 
-fn is_shallow_kind(kind: &Kind) -> bool
+/// Whether no field's value is deeper than 55, and no register's than 56.
+pub fn is_shallow_kind(kind: &Kind) -> bool
     ensures { result ≡ is_shallow_kind kind.now }
 {
     match kind {

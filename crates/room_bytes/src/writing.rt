@@ -27,16 +27,17 @@ fn put_u32(out: &mut Vec<u8>, n: u32) -> Result<(), NoMemory>
     Ok(())
 }
 
+/// Appends a number in eight bytes.
 #[tactic(auto, unfolding(crate::specs::Spelling::u64_bytes))]
-fn put_u64(out: &mut Vec<u8>, n: u64) -> Result<(), NoMemory>
+pub fn put_u64(out: &mut Vec<u8>, n: u64) -> Result<(), NoMemory>
     ensures { OnOk result (out.new.items ≡ out.old.items ++ u64_bytes n) }
 {
     out.extend_from_slice(&n.to_be_bytes())?;
     Ok(())
 }
 
-/// A list holds fewer than 2^32 items; more are out of memory.
-fn put_count(out: &mut Vec<u8>, n: u64) -> Result<(), NoMemory>
+/// Appends the number of the items of a list in four bytes. A list holds fewer than 2^32 items; more are out of memory.
+pub fn put_count(out: &mut Vec<u8>, n: u64) -> Result<(), NoMemory>
     ensures bytes { OnOk result (out.new.items ≡ out.old.items ++ u32_bytes n) }
     ensures counted { OnOk result (n < 2 ^ 32) }
 {
@@ -47,8 +48,9 @@ fn put_count(out: &mut Vec<u8>, n: u64) -> Result<(), NoMemory>
     Ok(())
 }
 
+/// Appends a text behind its length.
 #[tactic(auto, unfolding(crate::specs::Spelling::text_bytes))]
-fn put_text(out: &mut Vec<u8>, text: &Text) -> Result<(), NoMemory>
+pub fn put_text(out: &mut Vec<u8>, text: &Text) -> Result<(), NoMemory>
     ensures bytes { OnOk result (out.new.items ≡ out.old.items ++ text_bytes text.now) }
     ensures counted { OnOk result (IsCounted text.now) }
 {
@@ -67,8 +69,9 @@ fn put_json(alloc: Global, out: &mut Vec<u8>, value: &Json) -> Result<(), NoMemo
     Ok(())
 }
 
+/// Appends an id.
 #[tactic(auto, unfolding(crate::specs::Spelling::id_bytes))]
-fn put_id(out: &mut Vec<u8>, id: &NodeId) -> Result<(), NoMemory>
+pub fn put_id(out: &mut Vec<u8>, id: &NodeId) -> Result<(), NoMemory>
     ensures { OnOk result (out.new.items ≡ out.old.items ++ id_bytes id.now) }
 {
     match id {
@@ -148,8 +151,9 @@ fn code_of(kind: &Kind) -> u8
     }
 }
 
+/// Appends the fields of an object or the value of a register.
 #[tactic(auto, unfolding(crate::specs::Spelling::kind_bytes))]
-fn put_kind(alloc: Global, out: &mut Vec<u8>, kind: &Kind) -> Result<(), NoMemory>
+pub fn put_kind(alloc: Global, out: &mut Vec<u8>, kind: &Kind) -> Result<(), NoMemory>
     ensures bytes { OnOk result (out.new.items ≡ out.old.items ++ kind_bytes kind.now) }
     ensures counted { OnOk result (IsCountedKind kind.now) }
 {
@@ -227,8 +231,9 @@ fn put_each_body(alloc: Global, out: &mut Vec<u8>, bodies: &[Body]) -> Result<()
     Ok(())
 }
 
+/// Appends a name, in the second format.
 #[tactic(auto, unfolding(crate::specs::Spelling::name_bytes))]
-fn put_name(out: &mut Vec<u8>, f: Format, name: &Text) -> Result<(), NoMemory>
+pub fn put_name(out: &mut Vec<u8>, f: Format, name: &Text) -> Result<(), NoMemory>
     ensures bytes { OnOk result (out.new.items ≡ out.old.items ++ name_bytes f name.now) }
     ensures counted { OnOk result (IsCounted name.now) }
 {

@@ -1,0 +1,5 @@
+pub mod Walking
+pub mod Behind
+pub mod Listed
+pub mod Again
+pub mod Once
