@@ -1,6 +1,7 @@
 -- The schedule that a number and a count stand for: three clients that edit, push, move and speak in turn, a stop in
 -- the middle, and an undo at the end. Numbers are drawn by a linear congruential generator.
-use Rattle.std.specs.Prelude.{ℕ, zero, suc, ◌+◌, ◌-◌, ◌*◌, ◌/◌, ◌%◌, ◌==◌, nat_le, ◌||◌, if◌then◌else◌, Bool, List, [], ◌∷◌, ◌++◌, codes, decimal}
+use Rattle.std.specs.Prelude.{ℕ, zero, suc, ◌+◌, ◌-◌, ◌*◌, ◌/◌, ◌%◌, ◌==◌, nat_le, ◌||◌, if◌then◌else◌, Bool, List}
+use Rattle.std.specs.Prelude.{[], ◌∷◌, ◌++◌, codes, decimal}
 
 -- the state after a draw, and the number below k that it gives
 abbrev pub drawn : ℕ → ℕ

@@ -1,32 +1,48 @@
 -- The lines of a schedule, and those of a script. A call of a client is spelled alike in both; in a schedule the
 -- client's number stands behind the first word.
-use Rattle.std.specs.Prelude.{ℕ, ◌+◌, true, false, ◌&&◌, if◌then◌else◌, ◌==◌, Bool, List, [], ◌∷◌, Option, Some, None, option_map, codes, Result, Ok, Err}
+use Rattle.std.specs.Prelude.{ℕ, ◌+◌, true, false, ◌&&◌, if◌then◌else◌, ◌==◌, Bool, List, [], ◌∷◌, Option, Some, None}
+use Rattle.std.specs.Prelude.{option_map, codes, Result, Ok, Err}
 use Rattle.std.specs.Str.{bytes_eq}
 use Rattle.room_json.specs.Back.{json_in}
 use Rattle.room_ids.specs.Ids.{number_in}
-use Rattle.room_model.specs.Lines.{How, Old, New, Torn, Call, Dial, Edits, Begin, End, Undo, Redo, Pause, Resume, Clear, Presence, Event, Flush, Resend, Cut, Question, Show, Brief, ShowOthers, ShowHistory, ShowNotices, Up, Down, Gone, Raw, Stop, Start, Fuse, Compact, Limit, ShowServer, BriefServer, Line, OfClient, AsksClient, OfConnection, OfServer, Drain, Link}
-use Rattle.room_script.specs.Words.{word_of, rest_of, ended, read_then, most, number_from, number_then, value_to_end, object_to_end, text_to_end}
+use Rattle.room_model.specs.Lines.{How, Old, New, Torn, Call, Dial, Edits, Begin, End, Undo, Redo, Pause, Resume}
+use Rattle.room_model.specs.Lines.{Clear, Presence, Event, Flush, Resend, Cut, Question, Show, Brief, ShowOthers}
+use Rattle.room_model.specs.Lines.{ShowHistory, ShowNotices, Up, Down, Gone, Raw, Stop, Start, Fuse, Compact, Limit}
+use Rattle.room_model.specs.Lines.{ShowServer, BriefServer, Line, OfClient, AsksClient, OfConnection, OfServer, Drain}
+use Rattle.room_model.specs.Lines.{Link}
+use Rattle.room_script.specs.Words.{word_of, rest_of, ended, read_then, most, number_from, number_then, value_to_end}
+use Rattle.room_script.specs.Words.{object_to_end, text_to_end}
 use Rattle.room_script.specs.Edits.{edit_in}
 
--- a call of a client, by its name and what is left behind it
-abbrev pub call_named : List ℕ → Option (List ℕ) → Option Call
-call_named w rest =
-    if bytes_eq w (codes "dial") then ended Dial rest
-    else if bytes_eq w (codes "edit") then option_map Edits (edit_in rest)
-    else if bytes_eq w (codes "begin") then ended Begin rest
-    else if bytes_eq w (codes "end") then ended End rest
-    else if bytes_eq w (codes "undo") then ended Undo rest
-    else if bytes_eq w (codes "redo") then ended Redo rest
-    else if bytes_eq w (codes "pause") then ended Pause rest
-    else if bytes_eq w (codes "resume") then ended Resume rest
-    else if bytes_eq w (codes "clear") then ended Clear rest
-    else if bytes_eq w (codes "presence") then option_map (λ p. Presence p false) (object_to_end rest)
+-- a call of a client, by its name and what is left behind it: what it says and sends,
+abbrev pub said_named : List ℕ → Option (List ℕ) → Option Call
+said_named w rest =
+    if bytes_eq w (codes "presence") then option_map (λ p. Presence p false) (object_to_end rest)
     else if bytes_eq w (codes "presence+") then option_map (λ p. Presence p true) (object_to_end rest)
     else if bytes_eq w (codes "event") then option_map (λ v. Event (json_in v)) (value_to_end rest)
     else if bytes_eq w (codes "flush") then ended Flush rest
     else if bytes_eq w (codes "resend") then ended Resend rest
     else if bytes_eq w (codes "cut") then ended Cut rest
     else None
+
+-- its history,
+abbrev pub history_named : List ℕ → Option (List ℕ) → Option Call
+history_named w rest =
+    if bytes_eq w (codes "undo") then ended Undo rest
+    else if bytes_eq w (codes "redo") then ended Redo rest
+    else if bytes_eq w (codes "pause") then ended Pause rest
+    else if bytes_eq w (codes "resume") then ended Resume rest
+    else if bytes_eq w (codes "clear") then ended Clear rest
+    else said_named w rest
+
+-- and its edits
+abbrev pub call_named : List ℕ → Option (List ℕ) → Option Call
+call_named w rest =
+    if bytes_eq w (codes "dial") then ended Dial rest
+    else if bytes_eq w (codes "edit") then option_map Edits (edit_in rest)
+    else if bytes_eq w (codes "begin") then ended Begin rest
+    else if bytes_eq w (codes "end") then ended End rest
+    else history_named w rest
 
 -- what is asked of a client. A script doesn't ask for `brief`
 abbrev pub question_named : List ℕ → Option (List ℕ) → Option Question
@@ -82,6 +98,24 @@ is_server (Some bs) = bytes_eq bs (codes "server")
 abbrev pub raw_in : Option (List ℕ) → Option Line
 raw_in rest = number_then (λ k r. option_map (λ t. OfConnection k (Raw t)) (text_to_end r)) rest
 
+-- the server is asked, or a client is told or asked something
+abbrev pub asked_named : List ℕ → Option (List ℕ) → Option Line
+asked_named w rest =
+    if bytes_eq w (codes "show") && is_server rest then Some (OfServer ShowServer)
+    else if bytes_eq w (codes "brief") && is_server rest then Some (OfServer BriefServer)
+    else client_then (λ c r. client_line w c r) rest
+
+-- the server
+abbrev pub server_named : List ℕ → Option (List ℕ) → Option Line
+server_named w rest =
+    if bytes_eq w (codes "stop") then ended (OfServer Stop) rest
+    else if bytes_eq w (codes "start") then ended (OfServer Start) rest
+    else if bytes_eq w (codes "fuse") then fuse_in rest
+    else if bytes_eq w (codes "compact") then ended (OfServer Compact) rest
+    else if bytes_eq w (codes "limit") then limit_in rest
+    else asked_named w rest
+
+-- connections
 abbrev pub line_named : List ℕ → Option (List ℕ) → Option Line
 line_named w rest =
     if bytes_eq w (codes "up") then number_then (λ k r. ended (OfConnection k Up) r) rest
@@ -90,14 +124,7 @@ line_named w rest =
     else if bytes_eq w (codes "raw") then raw_in rest
     else if bytes_eq w (codes "drain") then number_then (λ n r. ended (Drain n) r) rest
     else if bytes_eq w (codes "link") then ended Link rest
-    else if bytes_eq w (codes "stop") then ended (OfServer Stop) rest
-    else if bytes_eq w (codes "start") then ended (OfServer Start) rest
-    else if bytes_eq w (codes "fuse") then fuse_in rest
-    else if bytes_eq w (codes "compact") then ended (OfServer Compact) rest
-    else if bytes_eq w (codes "limit") then limit_in rest
-    else if bytes_eq w (codes "show") && is_server rest then Some (OfServer ShowServer)
-    else if bytes_eq w (codes "brief") && is_server rest then Some (OfServer BriefServer)
-    else client_then (λ c r. client_line w c r) rest
+    else server_named w rest
 
 abbrev pub schedule_line : List ℕ → Option Line
 schedule_line bs = line_named (word_of bs) (rest_of bs)
@@ -113,10 +140,11 @@ pub data ScriptLine : Type 0 where
 abbrev pub take_in : Option (List ℕ) → Option ScriptLine
 take_in rest = number_then (λ n r. number_then (λ m q. ended (Takes n m) q) r) rest
 
+abbrev pub told_alone : List ℕ → Option (List ℕ) → Option ScriptLine
+told_alone w rest = or_else (option_map Calls (call_named w rest)) (option_map Asks (question_named w rest))
+
 abbrev pub script_named : List ℕ → Option (List ℕ) → Option ScriptLine
-script_named w rest =
-    if bytes_eq w (codes "take") then take_in rest
-    else or_else (option_map Calls (call_named w rest)) (option_map Asks (question_named w rest))
+script_named w rest = if bytes_eq w (codes "take") then take_in rest else told_alone w rest
 
 abbrev pub script_line : List ℕ → Option ScriptLine
 script_line bs = script_named (word_of bs) (rest_of bs)

@@ -1,6 +1,12 @@
 pub mod Edits
+pub mod Forms
 pub mod Generator
+pub mod Giving
 pub mod Grammar
+pub mod Laws
 pub mod Live
+pub mod Living
+pub mod Rows
 pub mod Samples
+pub mod Told
 pub mod Words

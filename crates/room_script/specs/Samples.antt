@@ -2,7 +2,8 @@
 use Rattle.std.specs.Prelude.{◌≡◌, ℕ, List, [], ◌∷◌, ◌++◌, codes, pos, Some, None, Ok, Err}
 use Rattle.room_json.specs.Value.{Value, whole, list, members, no_values, value, no_fields, field}
 use Rattle.room_model.specs.Init.{Plain, AMap, AList, no_parts, part, no_inits, init}
-use Rattle.room_model.specs.Lines.{Stop, ShowServer, BriefServer, Raw, Flush, Show, Brief, OfClient, AsksClient, OfConnection, OfServer, Link, Torn, Fuse}
+use Rattle.room_model.specs.Lines.{Stop, ShowServer, BriefServer, Raw, Flush, Show, Brief, OfClient, AsksClient}
+use Rattle.room_model.specs.Lines.{OfConnection, OfServer, Link, Torn, Fuse}
 use Rattle.room_script.specs.Live.{init_of}
 use Rattle.room_script.specs.Grammar.{schedule_line, script_line, schedule_in, Calls, Asks, Takes}
 use Rattle.room_script.specs.Generator.{drawn, pick, pushed_by, place_after}

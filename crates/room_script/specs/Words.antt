@@ -1,6 +1,7 @@
 -- A line is cut into words at single spaces. What is left stands behind the space after the last word; there is none
 -- where the line has ended. Each reading takes what comes next, and says what is made of it and of what is left.
-use Rattle.std.specs.Prelude.{ℕ, Bool, true, ◌&&◌, ◌==◌, nat_le, if◌then◌else◌, List, [], ◌∷◌, Option, Some, None, option_and_then, Result, Ok, Err}
+use Rattle.std.specs.Prelude.{⊤, ℕ, Bool, true, ◌&&◌, ◌==◌, nat_le, if◌then◌else◌, List, [], ◌∷◌, Option, Some, None}
+use Rattle.std.specs.Prelude.{option_and_then, Result, Ok, Err}
 use Rattle.std.specs.Str.{is_utf8}
 use Rattle.room_json.specs.Value.{Value, as_members}
 use Rattle.room_json.specs.Reading.{Refusal, value_of_text}
@@ -22,6 +23,10 @@ abbrev pub ended : {A : Type 0} → A → Option (List ℕ) → Option A
 ended x None = Some x
 ended x (Some bs) = None
 
+-- no more than that
+abbrev pub end_of : Option (List ℕ) → Option ⊤
+end_of rest = ended tt rest
+
 -- the next word
 abbrev pub word_then : {A : Type 0} → (List ℕ → Option (List ℕ) → Option A) → Option (List ℕ) → Option A
 word_then f None = None
@@ -31,6 +36,10 @@ word_then f (Some bs) = f (word_of bs) (rest_of bs)
 abbrev pub read_then : {A B : Type 0} → (List ℕ → Option B) → (B → Option (List ℕ) → Option A) → Option (List ℕ) →
     Option A
 read_then read f rest = word_then (λ w r. option_and_then (λ x. f x r) (read w)) rest
+
+-- a number within a bound
+abbrev pub at_most : ℕ → ℕ → Option ℕ
+at_most most n = if nat_le n most then Some n else None
 
 -- a number from a least to a greatest one
 abbrev pub at_least : ℕ → ℕ → Option ℕ
