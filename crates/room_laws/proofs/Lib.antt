@@ -1,12 +1,12 @@
 mod Acting
 mod Acts
 mod Advance
-mod Alone
+pub mod Alone
 mod AloneRuns
 mod Always
 mod Answering
 mod Bare
-mod Batches
+pub mod Batches
 mod Calls
 mod Calm
 mod ClientLines
@@ -16,17 +16,17 @@ mod Commits
 mod Cuts
 mod Dials
 mod Outbounds
-mod EditMakes
+pub mod EditMakes
 mod Edits
 mod EmptyPresence
-mod EveryRun
-mod Facts
+pub mod EveryRun
+pub mod Facts
 mod Follows
 mod Frame
 mod Frames
 mod Growth
 mod Happens
-mod Histories
+pub mod Histories
 mod HistoryBounds
 mod IssuedSound
 mod Joins
@@ -42,12 +42,12 @@ mod Messages
 mod Mixed
 mod Moments
 mod Moves
-mod Open
-mod Ops
+pub mod Open
+pub mod Ops
 mod Outcomes
 mod OwnFrames
 mod OwnLines
-mod OwnUpdate
+pub mod OwnUpdate
 mod Owns
 mod Patches
 mod Popped
@@ -74,10 +74,10 @@ mod Sent
 mod Served
 mod Serves
 mod Sessions
-mod Settled
+pub mod Settled
 mod Single
 mod SoundAccounts
-mod SoundCalls
+pub mod SoundCalls
 mod SoundReceives
 mod SoundLines
 mod SoundMaps
@@ -96,6 +96,6 @@ mod Undo
 mod UndoSound
 mod Undone
 mod ValidRuns
-mod Validity
+pub mod Validity
 mod Welcomes
 mod Whole

@@ -1,0 +1,12 @@
+pub mod Actions
+pub mod Editing
+pub mod Following
+pub mod Itemized
+pub mod Keyed
+pub mod Lifting
+pub mod Lists
+pub mod Members
+pub mod Rising
+pub mod Screens
+pub mod Showing
+pub mod Told
