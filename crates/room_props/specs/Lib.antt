@@ -13,3 +13,4 @@ pub use Rattle.room_nodes.specs.Shape
 pub use Rattle.room_log.specs.Log
 pub use Rattle.room_model.specs.Edits as ModelEdits
 pub use Rattle.room_model.specs.Init
+pub use Rattle.room_effect.specs.Effect

@@ -4,6 +4,7 @@ ghost use Rattle.room_json.specs.View.{json_of};
 ghost use Rattle.room_nodes.specs.declared.nodes.Kind.TheVariants.{Object as AnObject};
 ghost use Rattle.room_nodes.specs.Shape.{has_field};
 ghost use Rattle.room_model.specs.Edits.{make, fields_most};
+ghost use Rattle.room_effect.specs.Effect.{EffectOf};
 ghost use Rattle.room_props.specs.Edits.{HaveRoom, IsFaultOf, IsMade, clocks_of, edit_of, is_prop};
 ghost use Rattle.room_props.specs.Inits.{init_of};
 ghost use Rattle.room_props.specs.Making.{ops_made, node_set, field_set, fields_set, name_removed};
@@ -15,7 +16,7 @@ use crate::editing::{Clocks, Edit, EditFault, Made};
 use crate::live::Init;
 use crate::weighing::{MAX_VALUE_DEPTH, exact_depth, sum, weighed};
 use room_ids::NodeId;
-use room_json::{Copied, Json, Members, NoMemory, Text};
+use room_json::{Copied, Json, Members, NoMemory, Sound, Text};
 use room_nodes::{Bodies, Body, Kind};
 use room_tree::Tree;
 use std::alloc::Global;
@@ -213,12 +214,9 @@ fn remove(
     }
 }
 
-/// The operations that an edit of an object or a map makes on a tree, and the next numbers; or the first reason
-/// against it.
-///
-/// A set copies what it sets; a removal looks the name up; an update copies its fields.
+/// The operations or the first refusal.
 #[tactic(auto, using(crate::proofs::Checking::on_node))]
-pub fn make_prop<T: Tree>(alloc: Global, t: &T, c: &Clocks, e: &Edit) -> Result<Made, EditFault>
+fn make_of<T: Tree>(alloc: Global, t: &T, c: &Clocks, e: &Edit) -> Result<Made, EditFault>
     requires room { HaveRoom c.now }
     requires prop { is_prop (edit_of e.now) ≡ true }
     ensures ok { IfOk result (IsMade (make (T.nodes t.now) (clocks_of c.now) (edit_of e.now))) }
@@ -240,4 +238,19 @@ pub fn make_prop<T: Tree>(alloc: Global, t: &T, c: &Clocks, e: &Edit) -> Result<
         },
         _ => unreachable!(),
     }
+}
+
+/// The operations that an edit of an object or a map makes on a tree, and the next numbers; or the first reason
+/// against it.
+///
+/// A set copies what it sets; a removal looks the name up; an update copies its fields.
+pub fn make_prop<T: Tree>(alloc: Global, t: &T, c: &Clocks, e: &Edit) -> Result<Made, EditFault>
+    requires room { HaveRoom c.now }
+    requires prop { is_prop (edit_of e.now) ≡ true }
+    ensures ok { IfOk result (IsMade (make (T.nodes t.now) (clocks_of c.now) (edit_of e.now))) }
+    ensures err { IfErr result (IsFaultOf (make (T.nodes t.now) (clocks_of c.now) (edit_of e.now))) }
+    ensures effect { IfOk result (λ m. EffectOf (T.nodes t.now) (clocks_of c.now) (edit_of e.now) m.ops) }
+{
+    e.sound();
+    make_of(alloc, t, c, e)
 }

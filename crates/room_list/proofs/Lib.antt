@@ -1,0 +1,4 @@
+pub mod Checking
+pub mod Gaps
+pub mod Made
+pub mod Walked
