@@ -96,7 +96,7 @@ members_shown Listed vs = []
 members_shown Mapped vs = vs
 members_shown (Register v) vs = []
 
-keyed_kind : (kind : Kind) (vs : List Pair) → is_keyed kind ≡ true → kind_view kind vs ≡ members (fields_of (members_shown kind vs))
+pub keyed_kind : (kind : Kind) (vs : List Pair) → is_keyed kind ≡ true → kind_view kind vs ≡ members (fields_of (members_shown kind vs))
 keyed_kind (Object fs) vs e = refl
 keyed_kind Listed vs e = cc
 keyed_kind Mapped vs e = refl

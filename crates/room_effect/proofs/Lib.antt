@@ -15,6 +15,7 @@ mod Members
 mod Moved
 mod Named
 pub mod Neighbours
+mod Paths
 mod Planting
 mod Removals
 mod Replaced

@@ -19,7 +19,7 @@ use Rattle.room_model.specs.Edits.{Edit, EditFault, Clocks, Made, Push, Insert, 
 use Rattle.room_model.specs.Init.{Init, creates, init_view, node_depth, positions_in}
 use Rattle.room_model.specs.Sound.{IsSoundInit}
 use Rattle.room_effect.specs.Beside.{Kids}
-use Rattle.room_effect.specs.Effect.{Changes, HasEffect}
+use Rattle.room_effect.specs.Effect.{Changes}
 use Rattle.room_effect.proofs.Clearing.{clear_changes}
 use Rattle.room_effect.proofs.Created.{FreshFrom}
 use Rattle.room_effect.proofs.Gaps.{Kid, inside, insert_key, move_right, move_left}
@@ -171,39 +171,39 @@ module _ (t : Nodes) (f : IsFormed t) (x : NodeId) (n : Node) (there : get t x �
 -- what was made of each
 
 module _ (t : Nodes) (f : IsFormed t) (c : Clocks) (m : Made) (new : FreshFrom t c.actor c.node) where
-  pub pushes : (x : NodeId) (i : Init) → IsSoundInit i → make t c (Push x i) ≡ Ok m → HasEffect t (Push x i) (bodies_of m.ops)
+  pub pushes : (x : NodeId) (i : Init) → IsSoundInit i → make t c (Push x i) ≡ Ok m → Changes t x (bodies_of m.ops) (named_effect (Push x i))
   pushes x i sound made =
       let d = makes t c (Push x i) m made in
       subst (λ bs. Changes t x bs (named_effect (Push x i))) (sym d.is) (push_effect t f x d.node d.there (listed d.node.kind d.edit) c.actor c.node new i d.deep sound d.short)
 
-  pub inserts : (x : NodeId) (g : ℕ) (i : Init) → IsSoundInit i → make t c (Insert x g i) ≡ Ok m → HasEffect t (Insert x g i) (bodies_of m.ops)
+  pub inserts : (x : NodeId) (g : ℕ) (i : Init) → IsSoundInit i → make t c (Insert x g i) ≡ Ok m → Changes t x (bodies_of m.ops) (named_effect (Insert x g i))
   inserts x g i sound made =
       let d = makes t c (Insert x g i) m made in
       let low = test_ok (nat_le g (length (children t x))) (edits.BadIndex g (length (children t x))) d.index d.indices in
       subst (λ bs. Changes t x bs (named_effect (Insert x g i))) (sym d.is)
       (insert_effect t f x d.node d.there (listed d.node.kind d.edit) c.actor c.node new i d.deep sound g (grind (arith, nat_tests, low)) d.short)
 
-  pub puts : (x : NodeId) (j : ℕ) (i : Init) → IsSoundInit i → make t c (Put x j i) ≡ Ok m → HasEffect t (Put x j i) (bodies_of m.ops)
+  pub puts : (x : NodeId) (j : ℕ) (i : Init) → IsSoundInit i → make t c (Put x j i) ≡ Ok m → Changes t x (bodies_of m.ops) (named_effect (Put x j i))
   puts x j i sound made =
       let d = makes t c (Put x j i) m made in
       let low = test_ok (nat_lt j (length (children t x))) (edits.BadIndex j (length (children t x))) d.index d.indices in
       subst (λ bs. Changes t x bs (named_effect (Put x j i))) (sym d.is)
       (put_effect t f x d.node d.there (listed d.node.kind d.edit) c.actor c.node new i d.deep sound j low d.short)
 
-pub moves : (t : Nodes) → IsFormed t → (c : Clocks) (m : Made) (x : NodeId) (i j : ℕ) → make t c (Move x i j) ≡ Ok m → HasEffect t (Move x i j) (bodies_of m.ops)
+pub moves : (t : Nodes) → IsFormed t → (c : Clocks) (m : Made) (x : NodeId) (i j : ℕ) → make t c (Move x i j) ≡ Ok m → Changes t x (bodies_of m.ops) (named_effect (Move x i j))
 moves t f c m x i j made =
     let d = makes t c (Move x i j) m made in
     let count = length (children t x) in
     let low = both_ok (nat_lt i count) (nat_lt j count) (edits.BadIndex i count) (edits.BadIndex j count) d.index d.indices in
     subst (λ bs. Changes t x bs (named_effect (Move x i j))) (sym d.is) (move_effect t f x d.node d.there (listed d.node.kind d.edit) i j low.0 low.1 d.short)
 
-pub takes : (t : Nodes) → IsFormed t → (c : Clocks) (m : Made) (x : NodeId) (j : ℕ) → make t c (Take x j) ≡ Ok m → HasEffect t (Take x j) (bodies_of m.ops)
+pub takes : (t : Nodes) → IsFormed t → (c : Clocks) (m : Made) (x : NodeId) (j : ℕ) → make t c (Take x j) ≡ Ok m → Changes t x (bodies_of m.ops) (named_effect (Take x j))
 takes t f c m x j made =
     let d = makes t c (Take x j) m made in
     let low = test_ok (nat_lt j (length (children t x))) (edits.BadIndex j (length (children t x))) d.index d.indices in
     subst (λ bs. Changes t x bs (named_effect (Take x j))) (sym d.is) (take_effect t f x d.node d.there (listed d.node.kind d.edit) j low)
 
-pub clears : (t : Nodes) → IsFormed t → (c : Clocks) (m : Made) (x : NodeId) → make t c (Clear x) ≡ Ok m → HasEffect t (Clear x) (bodies_of m.ops)
+pub clears : (t : Nodes) → IsFormed t → (c : Clocks) (m : Made) (x : NodeId) → make t c (Clear x) ≡ Ok m → Changes t x (bodies_of m.ops) (named_effect (Clear x))
 clears t f c m x made =
     let d = makes t c (Clear x) m made in
     subst (λ bs. Changes t x bs (named_effect (Clear x))) (sym d.is) (clear_changes t f x d.node d.there (listed d.node.kind d.edit))

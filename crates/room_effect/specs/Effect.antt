@@ -1,5 +1,5 @@
 -- The effect of an edit on what is shown: the node that is edited shows what the edit's name says, and all else stays.
-use Rattle.std.specs.Prelude.{◌≡◌, ◌≤◌, ℕ, zero, suc, false, if◌then◌else◌, List, [], ◌∷◌, map, None, Ok, ⊤}
+use Rattle.std.specs.Prelude.{◌≡◌, ◌≤◌, ℕ, zero, suc, false, if◌then◌else◌, List, [], ◌∷◌, map, Some, None, Ok, ⊤}
 use Rattle.std.specs.FinMap.{get}
 use Rattle.room_ids.specs.Order.{is_same}
 use Rattle.room_ids.specs.declared.ids.NodeId.{NodeId}
@@ -14,6 +14,7 @@ use Rattle.room_items.specs.View.{node_view, view, view_at}
 use Rattle.room_log.specs.Log.{bodies_of}
 use Rattle.room_model.specs.Edits.{Edit, Clocks, Made, target, make, named_effect}
 use Rattle.room_model.specs.Init.{made_id}
+use Rattle.room_model.specs.Notices.{at_path, path_of}
 use Rattle.room_model.specs.Sound.{IsSoundEdit}
 
 -- no node of the tree has a clock of the actor from the next one on
@@ -42,8 +43,10 @@ pub record Changes (t : Nodes) (x : NodeId) (bs : List Body) (f : Value → Valu
   pub node : view_at (fold t bs) x ≡ f (view_at t x)
   pub rest : view (fold t bs) ≡ view_where t x (f (view_at t x))
 
-abbrev pub HasEffect : Nodes → Edit → List Body → Type 0
-HasEffect t e bs = Changes t (target e) bs (named_effect e)
+-- the effect of an edit; and the view of the tree is the old one, changed so at the node's path
+pub record HasEffect (t : Nodes) (e : Edit) (bs : List Body) : Type 0 where
+  pub changes : Changes t (target e) bs (named_effect e)
+  pub path : at_path (path_of t (target e)) (λ v. Some (named_effect e v)) (view t) ≡ Some (view (fold t bs))
 
 -- An edit that is made has its effect: on a well-formed tree of sound nodes, whose objects have their fields in byte
 -- order, where the actor's next node clocks are free.
