@@ -10,3 +10,7 @@ pub mod Rows
 pub mod Samples
 pub mod Told
 pub mod Words
+pub use Rattle.room_json.specs.Value
+pub use Rattle.room_model.specs.Init
+pub use Rattle.room_model.specs.Lines
+pub use Rattle.room_model.specs.Edits as ModelEdits
