@@ -35,10 +35,10 @@ module _ (t u : Nodes) (gone : NodeId → Bool) (x : NodeId) (g : FieldsOf → F
   pub acts_local : IsLocal t u x gone
   acts_local = record {
     node = λ q n there stays other. (
-        n,
-        stays_there t u gone x g a q n there stays ∙ ap (λ b. Some (edited_by b g n)) (differ q x other),
-        refl,
-      );
+      n,
+      stays_there t u gone x g a q n there stays ∙ ap (λ b. Some (edited_by b g n)) (differ q x other),
+      refl,
+    );
     kids = λ q n there stays other. sym (same_children t u q (kid_same q n there stays other));
     closed = closed;
   }

@@ -99,7 +99,7 @@ insert_key (e ∷ es) (suc m) h =
     let l : suc m ≤ suc (length es) = h in
     let within : m ≤ length es = omega (arith, l) in
     let made : key_between (Some (last_by e.0 (left_of m es))) (right_of m es)
-        ≡ cond (m == length es) (after_position (key_at (e ∷ es) m)) (between_positions (key_at (e ∷ es) m) (Some (key_at es m))) =
+    ≡ cond (m == length es) (after_position (key_at (e ∷ es) m)) (between_positions (key_at (e ∷ es) m) (Some (key_at es m))) =
     ap (λ k. key_between (Some k) (right_of m es)) (left_at e es m within) ∙ behind_by e es m (m == length es) refl within in
     let back : suc m - 1 ≡ m = omega arith in
     made ∙ sym (rw (suc_zero (length es), suc_zero m, suc_suc m (length es), back) refl)

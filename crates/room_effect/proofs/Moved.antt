@@ -206,7 +206,7 @@ module _ (t : Nodes) (f : IsFormed t) (x : NodeId) (n : Node) (there : get t x �
   kids_left : without_field e.0 (kids_of 59 t x) ≡ left_kids
   kids_left = sym (remove_without e.0 (kids_of 59 t x) (kids_ordered 59 t x))
       ∙ remove_index (kids_of 59 t x) from (e.0, view_within 59 t e.1) (kids_ordered 59 t x)
-          (slice_get-map (λ (d : Kid). (d.0, view_within 59 t d.1)) (children t x) from ∙ ap (option_map (λ (d : Kid). (d.0, view_within 59 t d.1))) at)
+      (slice_get-map (λ (d : Kid). (d.0, view_within 59 t d.1)) (children t x) from ∙ ap (option_map (λ (d : Kid). (d.0, view_within 59 t d.1))) at)
 
   kids : kids_of 59 w x ≡ insert_entry (slice_cmp nat_cmp) left_kids k (view_within 59 t e.1)
   kids =

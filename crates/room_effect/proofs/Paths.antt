@@ -178,7 +178,7 @@ module _ (t : Nodes) (f : IsFormed t) (x : NodeId) (n : Node) (there : get t x �
           ∙ sym (ap (λ b. cond b (Some w) (Some (view_within 59 t y))) (ap (λ j. eq_by_cmp (slice_cmp nat_cmp) j n.key) key ∙ key_self n.key))
       | inr o ↦
           let off : eq_by_cmp (slice_cmp nat_cmp) q n.key ≡ false = by_no (eq_by_cmp (slice_cmp nat_cmp) q n.key)
-              (λ i. o (some_inj y x (sym e ∙ ap (child_at t n.parent) (same_name q n.key i) ∙ own))) in
+          (λ i. o (some_inj y x (sym e ∙ ap (child_at t n.parent) (same_name q n.key i) ∙ own))) in
           ap (λ b. Some (cond b w (view_within 59 t y))) (differ y x o) ∙ sym (ap (λ b. cond b (Some w) (Some (view_within 59 t y))) off)
     ]
 

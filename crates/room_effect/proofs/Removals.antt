@@ -43,7 +43,7 @@ module _ (t : Nodes) (f : IsFormed t) (x : NodeId) (k : List ℕ) (n : Node) (th
     node = ap (λ (u : Nodes). view_at u x) is ∙ empty_shown t f x k n there keyed ordered;
     rest = ap view is
         ∙ rest_of t (emptied t x k) f x (gone_of t (child_at t x k)) (empty_local t f x k n there) n there (empty_formed t f x k n there) (empty_node t f x k n there) (empty_here t f x k n there) refl
-            (empty_root t f x k n there) (taken_out k (view_at t x)) (empty_shown t f x k n there keyed ordered);
+        (empty_root t f x k n there) (taken_out k (view_at t x)) (empty_shown t f x k n there keyed ordered);
   }
 
   -- nothing stands there

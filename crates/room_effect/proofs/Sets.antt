@@ -244,5 +244,5 @@ module _ (t : Nodes) (f : IsFormed t) (x : NodeId) (k : List ℕ) (n : Node) (th
     node = ap (λ (z : Nodes). view_at z x) fold_same ∙ shown;
     rest = ap view fold_same
         ∙ rest_of t w f x (gone_of t (child_at t x k)) local n there g.1.grown.formed p p_there refl (empty_root t f x k n there)
-            (on_members (λ fs. insert_entry (slice_cmp nat_cmp) fs k (init_view i)) (view_at t x)) shown;
+        (on_members (λ fs. insert_entry (slice_cmp nat_cmp) fs k (init_view i)) (view_at t x)) shown;
   }

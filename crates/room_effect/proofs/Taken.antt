@@ -77,7 +77,7 @@ module _ (t : Nodes) (f : IsFormed t) (x : NodeId) (n : Node) (there : get t x �
     pub kids_taken : kids_of 59 (emptied t x e.0) x ≡ remove_at (kids_of 59 t x) i
     kids_taken = kids_without e.0
         ∙ remove_index (kids_of 59 t x) i (e.0, view_within 59 t e.1) (kids_ordered 59 t x)
-            (slice_get-map (λ (d : Kid). (d.0, view_within 59 t d.1)) (children t x) i ∙ ap (option_map (λ (d : Kid). (d.0, view_within 59 t d.1))) at)
+        (slice_get-map (λ (d : Kid). (d.0, view_within 59 t d.1)) (children t x) i ∙ ap (option_map (λ (d : Kid). (d.0, view_within 59 t d.1))) at)
 
     shown_taken : view_at (emptied t x e.0) x ≡ on_list (λ vs. remove_at vs i) (view_at t x)
     shown_taken =
@@ -91,5 +91,5 @@ module _ (t : Nodes) (f : IsFormed t) (x : NodeId) (n : Node) (there : get t x �
       node = ap (λ (u : Nodes). view_at u x) delete_step ∙ shown_taken;
       rest = ap view delete_step
           ∙ rest_of t (emptied t x e.0) f x (gone_of t (child_at t x e.0)) (empty_local t f x e.0 n there) n there (empty_formed t f x e.0 n there) (empty_node t f x e.0 n there) (empty_here t f x e.0 n there) refl
-              (empty_root t f x e.0 n there) (on_list (λ vs. remove_at vs i) (view_at t x)) shown_taken;
+          (empty_root t f x e.0 n there) (on_list (λ vs. remove_at vs i) (view_at t x)) shown_taken;
     }

@@ -16,8 +16,9 @@ use crate::walking::{END, Found, deletes, look, more};
 use room_ids::NodeId;
 use room_json::{Copied, NoMemory, Sound, Text};
 use room_nodes::{Body, Kind};
-use room_props::{Clocks, Edit, EditFault, Init, Made, Place};
-use room_props::{finish, make_node, make_none, make_one, weighed};
+use room_props::{
+    Clocks, Edit, EditFault, Init, Made, Place, finish, make_node, make_none, make_one, weighed,
+};
 use room_tree::Tree;
 use std::alloc::Global;
 

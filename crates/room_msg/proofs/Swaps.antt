@@ -198,7 +198,7 @@ merged_fresh : (us : List (ℕ × List ℕ)) (es : List Entry) → AreActors us 
 merged_fresh [] es r d h all = all
 merged_fresh (u ∷ us) es r d h all =
     merged_fresh us (insert_entry (slice_cmp nat_cmp) es (decimal u.0) (user_value u.1)) r.1 d.1
-      (all_fresh_put u.0 (user_value u.1) us r.0 r.1 d.0 es h.1) (all_fresh_insert (decimal u.0) (user_value u.1) es h.0 all)
+    (all_fresh_put u.0 (user_value u.1) us r.0 r.1 d.0 es h.1) (all_fresh_insert (decimal u.0) (user_value u.1) es h.0 all)
 
 pub users_again : (us : List (ℕ × List ℕ)) → IsRising us → AreActors us → as_users (object_of (map user_out us)) ≡ Some us
 users_again us rising actors =

@@ -20,10 +20,10 @@ returns-in-Ok g c =
     let list : is_list n.kind ≡ true = search rules in
     let at : looks e ≡ true = search rules in
     let is = made_list t (clocks_of c.args.c.now) e n there list at f.count f.item (option_copied f.left) (option_copied f.right) c.in-Ok.ensures.few
-        (c.in-Ok.ensures.count ∙ ap (λ x. length (children t x)) c.target-2.ensures)
-        (c.in-Ok.ensures.item ∙ (λ j. id_at (children t (c.target-2.ensures j)) (c.index.ensures j)))
-        (c.in-Ok.ensures.left ∙ (λ j. left_of (c.gap.ensures j) (children t (c.target-2.ensures j))))
-        (c.in-Ok.ensures.right ∙ (λ j. right_of (c.gap.ensures j) (children t (c.target-2.ensures j)))) in
+    (c.in-Ok.ensures.count ∙ ap (λ x. length (children t x)) c.target-2.ensures)
+    (c.in-Ok.ensures.item ∙ (λ j. id_at (children t (c.target-2.ensures j)) (c.index.ensures j)))
+    (c.in-Ok.ensures.left ∙ (λ j. left_of (c.gap.ensures j) (children t (c.target-2.ensures j))))
+    (c.in-Ok.ensures.right ∙ (λ j. right_of (c.gap.ensures j) (children t (c.target-2.ensures j)))) in
     record {
       ok = subst (λ (r : Outcome). IfOk c.make_found.result (IsMade r)) (sym is) c.make_found.ensures.ok;
       err = subst (λ (r : Outcome). IfErr c.make_found.result (IsFaultOf r)) (sym is) c.make_found.ensures.err;

@@ -14,7 +14,7 @@ pub loop-child-smaller : goal.loop-child-smaller
 loop-child-smaller g c =
     let l = c.loop-child in
     let less = clearing_less (g.T.Tree.nodes c.args.t.now) c.args.list.now (option_copied l.key) l.bodies l.invariant
-        c.in-Some.child c.in-Some.ensures c.node_there-node.result.now c.node_there-node.ensures in
+    c.in-Some.child c.in-Some.ensures c.node_there-node.result.now c.node_there-node.ensures in
     omega (arith, less, longer l.bodies c.push.new.self c.in-Some.child c.in_ok-push.ensures.ok)
 
 pub loop-child-preserved : goal.loop-child-preserved
