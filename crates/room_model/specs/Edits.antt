@@ -273,8 +273,8 @@ make_at t c e (Some n) = make_of t c e n
 abbrev pub make : Nodes → Clocks → Edit → Result Made EditFault
 make t c e = make_at t c e (get t (target e))
 
--- The named effect on the view of the node: all else of it stays. No law speaks of it yet; it is for the one that the
--- operations of an edit have this effect.
+-- The named effect on the view of the node: all else of it stays. That the operations of an edit have it is the law of
+-- `room_effect`.
 
 abbrev pub on_members : (List (List ℕ × Value) → List (List ℕ × Value)) → Value → Value
 on_members f (members fs) = members (fields_of (f (fields_list fs)))
