@@ -154,6 +154,7 @@ impl Journal {
         requires base { self.old.base + 1 < 2 ^ 32 }
         requires ready { length ready.now < 2 ^ 62 }
 
+        ensures bound { self.old.generation ≤ last_generation }
         ensures made { D.tells ≡ true → self.old.generation < last_generation → (s : List ℕ)
             → IsReadyFile self.old.generation s ready.now
             → OnOk result

@@ -1,0 +1,5 @@
+mod Kept
+mod Actors
+mod Updating
+mod Written
+mod Valid

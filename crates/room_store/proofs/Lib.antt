@@ -1,0 +1,7 @@
+mod Standing
+mod Generations
+mod Anew
+mod Adding
+mod Finding
+mod Opening
+mod Grown

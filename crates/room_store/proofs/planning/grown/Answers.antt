@@ -1,0 +1,16 @@
+use Rattle.std.proofs.Common.{◌≡◌, rules, map, ap, ◌∙◌, List, [], ◌∷◌, ◌++◌}
+use Rattle.room_log.specs.Log.{Entry}
+use Rattle.room_bytes.specs.Bounds.{logged}
+use Rattle.room_bytes.specs.Reading.{group_of}
+use Rattle.room_journal.specs.Rest.{body_of}
+use Rattle.room_store.proofs.Grown.{more_written, logged_more}
+use Rattle.room_store.proofs.planning.grown.Goals as goal
+
+pub returns-clause-reads : goal.returns-clause-reads
+returns-clause-reads c =
+    let es : List Entry = map logged c.args.g.now.entries in
+    let fs : List Entry = map logged c.push.new.self in
+    let body : body_of c.in_ok-ready.ready ≡ c.in_ok-bytes.bytes = search rules in
+    let pushed : c.push.new.self ≡ c.args.g.now.entries ++ c.args.e ∷ [] = search rules in
+    let more : fs ≡ es ++ logged c.args.e ∷ [] = ap (map logged) pushed ∙ logged_more c.args.g.now.entries c.args.e in
+    ap group_of body ∙ c.in_ok-bytes.ensures.again (more_written es fs (logged c.args.e) c.requires.group c.requires.written more)

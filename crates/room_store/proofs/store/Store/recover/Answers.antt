@@ -1,0 +1,27 @@
+use Rattle.std.proofs.Common.{◌+◌}
+use Rattle.room_snapshot.specs.Bounds.{state_of}
+use Rattle.room_replay.specs.Files.{StandsFor, files}
+use Rattle.room_store.proofs.Finding.{ok_is, still_old, old_then, stands_same, since_of, goes_on}
+use Rattle.room_store.proofs.store.Store.recover.Goals as goal
+
+pub returns-in-Ok-clause-any_moment : goal.returns-in-Ok-clause-any_moment
+returns-in-Ok-clause-any_moment g c told s is =
+    let seen = g.D.Disk.seen c.args.disk.now in
+    let later = g.D.Disk.seen c.recover.new.disk in
+    old_then _ _ _ _ _ _ (StandsFor c.args.base s) (c.recover.ensures.within told)
+    (c.resume.ensures.any_moment told s (stands_same c.args.base s seen later (c.recover.ensures.same told) is))
+
+pub returns-in-Ok-clause-since : goal.returns-in-Ok-clause-since
+returns-in-Ok-clause-since g c told =
+    let later = g.D.Disk.seen c.recover.new.disk in
+    since_of c.resume.result (λ s. state_of s.state.count s.state.sessions (g.T.Tree.nodes s.state.tree)) c.args.base _ _ _ _ _
+    (files c.args.base (later c.args.base) (later (c.args.base + 1))) (c.resume.ensures.state told) (c.resume.ensures.any_moment told)
+    (ok_is c.recover.result _ _ (c.recover.ensures.counted told) c.in-Ok.is)
+
+pub returns-in-Ok-clause-clean : goal.returns-in-Ok-clause-clean
+returns-in-Ok-clause-clean g c told stops still clean =
+    c.resume.ensures.clean told stops (goes_on c.recover.result _ _ c.in-Ok.is c.recover.ensures.stop_fails)
+    (ok_is c.recover.result _ _ (c.recover.ensures.clean told stops still clean) c.in-Ok.is)
+
+pub returns-in-Err-clause-any_moment : goal.returns-in-Err-clause-any_moment
+returns-in-Err-clause-any_moment g c told s is = still_old _ _ _ _ (StandsFor c.args.base s) (c.recover.ensures.within told)

@@ -1,0 +1,5 @@
+pub mod Consistent
+pub mod Calls
+pub mod Groups
+pub mod Faults
+pub use Rattle.room_replay.specs.Files

@@ -1,0 +1,109 @@
+//! Why a call of a store was not done.
+ghost use Rattle.std.specs.Prelude.{◌≡◌};
+ghost use Rattle.room_store.specs.declared.fault.StoreFault.TheVariants.{Memory};
+ghost use Rattle.room_store.specs.Faults.{as_store, told, cause_in};
+
+use room_journal::JournalFault;
+use room_json::NoMemory;
+use std::error::Error;
+use std::fmt;
+
+/// What broke a store: a fault of its disk, or that its disk was out of memory.
+#[derive(Clone, Copy, Debug, PartialEq, Eq)]
+pub enum Cause {
+    Disk,
+    Memory,
+}
+
+/// Why a call of a store was not done.
+#[derive(Clone, Copy, Debug, PartialEq, Eq)]
+pub enum StoreFault {
+    /// The store was broken before, for that cause. The room has to be recovered again.
+    Broken(Cause),
+    /// Out of memory.
+    Memory,
+    /// The disk failed.
+    Disk,
+    /// The files hold no room: this file is damaged at this offset.
+    Damaged(u32, u64),
+    /// The clocks have a gap: one was expected, and another came.
+    Gap(u64, u64),
+    /// The room has so many updates, and may have no more.
+    Full(u64),
+    /// The room has so many sessions, and may have no more.
+    SessionsFull(u32),
+}
+
+impl fmt::Display for Cause {
+    fn fmt<W: fmt::Write>(&self, f: &mut fmt::Formatter<W>) -> fmt::Result {
+        match self {
+            Cause::Disk => f.write_str("the disk failed before"),
+            Cause::Memory => f.write_str("the disk was out of memory before"),
+        }
+    }
+}
+
+impl fmt::Display for StoreFault {
+    fn fmt<W: fmt::Write>(&self, f: &mut fmt::Formatter<W>) -> fmt::Result {
+        match self {
+            StoreFault::Broken(cause) => write!(f, "broken: {}", cause),
+            StoreFault::Memory => f.write_str("out of memory"),
+            StoreFault::Disk => f.write_str("the disk failed"),
+            StoreFault::Damaged(file, at) => write!(f, "file {} is damaged at {}", file, at),
+            StoreFault::Gap(expected, got) => write!(
+                f,
+                "clock {} came where {} was expected",
+                got, expected
+            ),
+            StoreFault::Full(count) => write!(f, "the room is full with {} updates", count),
+            StoreFault::SessionsFull(count) => write!(
+                f,
+                "the room is full with {} sessions",
+                count
+            ),
+        }
+    }
+}
+
+impl Error for StoreFault {}
+
+impl From<NoMemory> for StoreFault {
+    ghost from_gives = { λ _ v. v ≡ Memory };
+
+    fn from(_e: NoMemory) -> StoreFault {
+        StoreFault::Memory
+    }
+}
+
+/// What a fault of the journal becomes.
+pub fn as_store(fault: JournalFault) -> StoreFault
+    ensures { result ≡ as_store fault }
+{
+    match fault {
+        JournalFault::Memory => StoreFault::Memory,
+        JournalFault::Disk => StoreFault::Disk,
+        JournalFault::Damaged(file, at) => StoreFault::Damaged(file, at),
+    }
+}
+
+/// What an answer of the journal becomes.
+pub fn told(answer: Result<(), JournalFault>) -> Result<(), StoreFault>
+    ensures { result ≡ told answer }
+{
+    match answer {
+        Ok(()) => Ok(()),
+        Err(fault) => Err(as_store(fault)),
+    }
+}
+
+/// By what an answer of the journal breaks a store.
+pub fn cause_in(answer: &Result<(), JournalFault>) -> Option<Cause>
+    ensures { result ≡ cause_in answer.now }
+{
+    match answer {
+        Ok(()) => None,
+        Err(JournalFault::Memory) => Some(Cause::Memory),
+        Err(JournalFault::Disk) => Some(Cause::Disk),
+        Err(JournalFault::Damaged(_, _)) => Some(Cause::Disk),
+    }
+}

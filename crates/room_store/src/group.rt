@@ -1,0 +1,32 @@
+//! A group of entries, with the bytes of its record.
+ghost use Rattle.std.specs.Prelude.{◌≡◌, [], length};
+
+use room_bytes::Entries;
+use room_json::Bytes;
+use std::alloc::Global;
+
+/// Entries that follow one another, and the bytes of their record behind its gate; none for an empty group.
+#[derive(Drop)]
+pub struct Group {
+    pub(crate) entries: Entries,
+    pub(crate) ready: Bytes,
+}
+
+impl Group {
+    /// A group without entries.
+    pub fn new(alloc: Global) -> Group
+        ensures { result.entries ≡ [] }
+    {
+        Group {
+            entries: Entries::new(alloc),
+            ready: Bytes::new(alloc),
+        }
+    }
+
+    /// How many entries it has.
+    pub fn count(&self) -> u64
+        ensures { result ≡ length self.now.entries }
+    {
+        self.entries.len()
+    }
+}
