@@ -1,5 +1,5 @@
 mod Kept
-mod Actors
+pub mod Actors
 mod Updating
 mod Written
 mod Valid

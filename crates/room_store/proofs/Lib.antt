@@ -5,3 +5,4 @@ mod Adding
 mod Finding
 mod Opening
 mod Grown
+mod Chosen

@@ -1,5 +1,5 @@
 -- Which answers a store gives, and what they leave.
-use Rattle.std.specs.Prelude.{◌≡◌, ◌⊎◌, ◌≤◌, ℕ, Bool, false, Option, Some, None, Result, Ok, Err, IsErrOf}
+use Rattle.std.specs.Prelude.{◌≡◌, ◌⊎◌, ◌≤◌, ℕ, nat_le, Bool, false, if◌then◌else◌, Option, Some, None, Result, Ok, Err, IsErrOf}
 use Rattle.room_edge.specs.Causes.{Rose}
 use Rattle.room_journal.specs.declared.fault.JournalFault.{JournalFault}
 use Rattle.room_journal.specs.declared.fault.JournalFault.TheVariants as journal
@@ -66,3 +66,15 @@ IsFault fs (Damaged f at) = fs ≡ DamagedFiles f at
 IsFault fs (Gap e g) = ⊥
 IsFault fs (Full n) = ⊥
 IsFault fs (SessionsFull n) = ⊥
+
+-- what a planning is refused with, but for want of memory: a broken store with its cause; a session, where the number n
+-- of sessions has reached the limit
+abbrev pub join_refusal : Option Cause → (n limit : ℕ) → Option StoreFault
+join_refusal (Some c) n limit = Some (Broken c)
+join_refusal None n limit = if nat_le limit n then Some (SessionsFull n) else None
+
+-- where there is a refusal, the answer is that; else it is Ok, or that memory is short
+abbrev pub IsRefusedBy : {T : Type 0} → Option StoreFault → Result T StoreFault → Type 0
+IsRefusedBy (Some e) result = result ≡ Err e
+IsRefusedBy None (Ok x) = Unit {0}
+IsRefusedBy None (Err e) = e ≡ Memory

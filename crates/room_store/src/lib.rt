@@ -5,8 +5,11 @@ mod fault;
 mod group;
 mod kept;
 mod planning;
+mod showing;
 mod store;
+mod taking;
 
 pub use fault::{Cause, StoreFault};
 pub use group::Group;
 pub use store::{Limits, Store};
+pub use taking::Taken;
