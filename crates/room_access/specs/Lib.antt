@@ -1,0 +1,5 @@
+pub mod Giving
+pub mod Grammar
+pub mod Lines
+pub mod View
+pub use Rattle.room_model.specs.Access
