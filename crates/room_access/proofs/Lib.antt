@@ -1,2 +1,3 @@
+mod SampleCases
 pub mod Gathering
 pub mod Named

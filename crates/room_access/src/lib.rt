@@ -4,6 +4,7 @@
 #![tactic(auto)]
 
 mod access;
+mod cases;
 mod deciding;
 mod fault;
 mod lines;
@@ -12,6 +13,7 @@ mod rows;
 mod words;
 
 pub use access::{Access, Decision, Level, Pass, Passes, Policy, Rule};
+pub use cases::samples;
 pub use deciding::{decide, group_of};
 pub use fault::AccessFault;
 pub use reading::read_access;
