@@ -1,5 +1,6 @@
 -- Which answers a store gives, and what they leave.
-use Rattle.std.specs.Prelude.{◌≡◌, ◌⊎◌, ◌≤◌, ℕ, nat_le, Bool, false, if◌then◌else◌, Option, Some, None, Result, Ok, Err, IsErrOf}
+use Rattle.std.specs.Prelude.{◌≡◌, ◌⊎◌, ◌≤◌, ℕ, nat_le, Bool, false, if◌then◌else◌}
+use Rattle.std.specs.Prelude.{Option, Some, None, Result, Ok, Err, IsErrOf}
 use Rattle.room_edge.specs.Causes.{Rose}
 use Rattle.room_journal.specs.declared.fault.JournalFault.{JournalFault}
 use Rattle.room_journal.specs.declared.fault.JournalFault.TheVariants as journal

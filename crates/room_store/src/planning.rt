@@ -152,7 +152,7 @@ impl<T: Tree> Store<T> {
         ensures refused { OnErr result ((self.new ≡ self.old) × (g.new ≡ g.old)) }
         ensures full { (n : ℕ) → IsErrOf result (StoreFault.SessionsFull n)
             → (n ≡ length self.old.state.sessions) × (self.old.limits.sessions ≤ n) }
-        // `Broken` exactly of a broken store, then `SessionsFull` exactly where the limit is reached, else `Memory` alone.
+        // `Broken` exactly of a broken store, then `SessionsFull` exactly where the limit is reached, else `Memory`.
         ensures refusal { IsRefusedBy (join_refusal self.old.kept.broken (length self.old.state.sessions)
             self.old.limits.sessions) result }
         ensures kept { self.new.kept ≡ self.old.kept }
@@ -207,12 +207,20 @@ impl<T: Tree> Store<T> {
         follows_exactly();
         let ops = ops_of(alloc, actor, first, bodies.as_slice())?;
         let seq = self.state.count + 1;
-        self.plan_entry(alloc, g, Entry::Update { actor, first, bodies })?;
+        self.plan_entry(
+            alloc,
+            g,
+            Entry::Update {
+                actor,
+                first,
+                bodies,
+            },
+        )?;
         Ok(Taken::Update { seq, ops })
     }
 
-    /// Adds what is new of the operations of an actor that has a session, as they settle, and answers it; nothing, where
-    /// nothing is new. No value of theirs is too deep. A refused call changes nothing.
+    /// Adds what is new of the operations of an actor that has a session, as they settle, and answers it; nothing,
+    /// where nothing is new. No value of theirs is too deep. A refused call changes nothing.
     pub fn plan(
         &mut self,
         alloc: Global,

@@ -49,7 +49,8 @@ impl<T: Tree> Store<T> {
 
     /// The name that an actor that has a session gave.
     pub fn name_of(&self, actor: u32) -> Option<&Text>
-        ensures { option_copied result ≡ option_map (λ s. s.name) (session_of (map kept self.now.state.sessions) actor) }
+        ensures { option_copied result
+            ≡ option_map (λ s. s.name) (session_of (map kept self.now.state.sessions) actor) }
     {
         match session_at(&self.state.sessions, actor) {
             Some(session) => Some(&session.name),

@@ -19,10 +19,7 @@ use std::alloc::Global;
 #[derive(Drop)]
 pub enum Taken {
     Nothing,
-    Update {
-        seq: u64,
-        ops: Ops,
-    },
+    Update { seq: u64, ops: Ops },
 }
 
 /// What is taken: nothing, or an update with its first clock and its settled operations; or the clocks have a gap.
