@@ -20,7 +20,7 @@ pub clock_cut : (c l : ℕ) (bs : List Body) → c < l → l ≤ c + length bs
 clock_cut c l bs lt le = omega (arith, length-take-le (l - c) bs (omega (arith, le)), lt, le)
 
 -- what is left behind the first batch is long enough
-left : (c l : ℕ) (ls : List ℕ) (bs : List Body) → c < l → last_of l ls ≤ c + length bs → Rising l ls
+pub left : (c l : ℕ) (ls : List ℕ) (bs : List Body) → c < l → last_of l ls ≤ c + length bs → Rising l ls
     → last_of l ls ≤ l + length (drop (l - c) bs)
 left c l ls bs lt le h = omega (arith, length-drop (l - c) bs, rises l ls h, lt, le)
 

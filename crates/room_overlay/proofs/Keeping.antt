@@ -47,7 +47,7 @@ some_by : (n : ℕ) (bs : List Body) (t : Bool) → nat_lt n (length bs) ≡ t �
 some_by n bs true test = some_long (drop n bs) (omega (arith, length-drop n bs, ltb-true n (length bs) test))
 some_by n bs false test = ap is_some_list (drop_all n bs (ltb-false n (length bs) test))
 
-some_is : (x y : Op) → Some x ≡ Some y → x ≡ y
+pub some_is : (x y : Op) → Some x ≡ Some y → x ≡ y
 some_is x y e = ap (λ o. elim o as (λ _. Op) [ None ↦ x | Some z ↦ z ]) e
 
 opened_by : (b : Bool) (rest : List Body) → (b ≡ false → rest ≡ []) → opened (batch_in b rest) ≡ rest

@@ -1,3 +1,4 @@
+pub mod Batches
 pub mod Cuts
 pub mod Gathering
 pub mod Keeping

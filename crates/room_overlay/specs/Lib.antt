@@ -7,8 +7,10 @@ pub mod Together
 pub mod Touched
 pub use Rattle.room_json.specs.Limits
 pub use Rattle.room_nodes.specs.Cells
+pub use Rattle.room_nodes.specs.Equal
 pub use Rattle.room_nodes.specs.Shape
 pub use Rattle.room_nodes.specs.Steps
 pub use Rattle.room_log.specs.Log
 pub use Rattle.room_model.specs.Account
 pub use Rattle.room_model.specs.Receive
+pub use Rattle.room_model.specs.Sound

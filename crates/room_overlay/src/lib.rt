@@ -1,6 +1,7 @@
 //! What a client shows: the confirmed tree with its own operations beyond the acknowledged ones on top.
 #![tactic(auto)]
 
+mod equality;
 mod faults;
 mod laws;
 mod overlay;

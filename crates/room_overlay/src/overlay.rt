@@ -1,16 +1,21 @@
 //! The overlay: what is confirmed, what is pending on top, and what is shown.
-ghost use Rattle.std.specs.Prelude.{◌≡◌, ◌≤◌, ◌<◌, ◌+◌, ◌++◌, ◌∷◌, [], ℕ, List, Ok, is_some, IfOk, IfErr, OnOk, OnErr};
+ghost use Rattle.std.specs.Prelude.{◌≡◌, ◌≤◌, ◌<◌, ◌+◌, ◌++◌, ◌∷◌, [], ℕ, List, Ok, Some, is_some, length, map};
+ghost use Rattle.std.specs.Prelude.{slice_get, IfOk, IfErr, OnOk, OnErr};
 ghost use Rattle.std.specs.Option.{option_map};
 ghost use Rattle.room_json.specs.Limits.{max_whole};
 ghost use Rattle.room_nodes.specs.declared.nodes.Body.{Body};
 ghost use Rattle.room_nodes.specs.Steps.{fold};
 ghost use Rattle.room_nodes.specs.Cells.{is_apart};
+ghost use Rattle.room_nodes.specs.Equal.{are_first};
 ghost use Rattle.room_log.specs.Log.{bodies_of, ops_from};
+ghost use Rattle.room_model.specs.Account.{batch_ops, last_clock};
+ghost use Rattle.room_model.specs.Sound.{RunsOn};
 ghost use Rattle.room_overlay.specs.Kept.{IsShown};
 ghost use Rattle.room_overlay.specs.Over.{new_over, opened_ops, pending, shown, unacknowledged, last_issued};
 ghost use Rattle.room_overlay.specs.Over.{next_clock};
 ghost use Rattle.room_overlay.specs.Over.{added_to, sealed, load, loaded, stands_apart, update, updated, IsFaultOf};
 
+use crate::equality::are_first;
 use crate::faults::OverFault;
 use crate::own::Own;
 use crate::telling::{none_own, told_by};
@@ -169,6 +174,13 @@ impl<T: Tree> Overlay<T> {
         }
     }
 
+    /// The tree after the last update taken.
+    pub fn confirmed(&self) -> &T
+        ensures { T.nodes result.now ≡ self.now.confirmed }
+    {
+        &self.confirmed
+    }
+
     /// The own operations beyond the acknowledged ones, the open batch's too.
     pub fn pending(&self) -> &Ops
         ensures { result.now ≡ pending self.now }
@@ -181,6 +193,45 @@ impl<T: Tree> Overlay<T> {
         ensures { result ≡ unacknowledged self.now }
     {
         self.own.batches()
+    }
+
+    /// The last clock that was issued.
+    pub fn last_issued(&self) -> u64
+        ensures last { result ≡ last_issued self.now }
+        ensures runs { RunsOn self.now.told self.now.issued }
+        ensures bound { result ≤ max_whole }
+    {
+        self.own.last()
+    }
+
+    /// How many issued batches aren't acknowledged whole.
+    pub fn issued(&self) -> usize
+        ensures { result ≡ length self.now.issued }
+    {
+        self.own.issued()
+    }
+
+    /// The operations of an issued batch that aren't acknowledged.
+    pub fn batch(&self, i: usize) -> &[Op]
+        requires { i < length self.now.issued }
+        ensures { Some result.now ≡ slice_get (map (batch_ops self.now.actor) self.now.issued) i }
+    {
+        self.own.batch(i)
+    }
+
+    /// The clock of an issued batch's last operation.
+    pub fn batch_end(&self, i: usize) -> u64
+        requires { i < length self.now.issued }
+        ensures { Some result ≡ slice_get (map last_clock self.now.issued) i }
+    {
+        self.own.batch_end(i)
+    }
+
+    /// Whether the pending operations begin with these.
+    pub fn begins(&self, ops: &Ops) -> bool
+        ensures { result ≡ are_first ops.now (pending self.now) }
+    {
+        are_first(ops.as_slice(), self.own.ops().as_slice())
     }
 
     /// Whether a batch is open: local operations continue it.

@@ -1,12 +1,14 @@
 //! The own operations beyond the acknowledged ones.
 ghost use Rattle.std.specs.Prelude.{◌≡◌, ◌≤◌, ◌<◌, ◌+◌, ◌-◌, ◌++◌, ◌∷◌, [], ℕ, if◌then◌else◌, is_some, length, take};
-ghost use Rattle.std.specs.Prelude.{drop, vec_len, vec_capacity, OnOk, OnErr};
+ghost use Rattle.std.specs.Prelude.{drop, map, slice_get, Some, vec_len, vec_capacity, OnOk, OnErr};
 ghost use Rattle.room_json.specs.Limits.{max_whole};
 ghost use Rattle.room_nodes.specs.Steps.{fold};
 ghost use Rattle.room_log.specs.Log.{bodies_of, ops_from};
+ghost use Rattle.room_model.specs.Account.{batch_ops, last_clock};
+ghost use Rattle.room_model.specs.Sound.{RunsOn};
 ghost use Rattle.room_overlay.specs.Own.{Own as Meaning, new_own, own_ops, own_bodies, own_batches, end_of, next_clock};
 ghost use Rattle.room_overlay.specs.Own.{added, opened, sealed_own, acknowledged};
-ghost use Rattle.room_overlay.specs.Kept.{above};
+ghost use Rattle.room_overlay.specs.Kept.{above, last_of};
 
 use crate::together::step_all;
 use room_json::{Copied, NoMemory, Seq};
@@ -119,6 +121,23 @@ fn behind(ops: &[Op], count: usize) -> &[Op]
     &ops[count..]
 }
 
+/// The operations from one place to another.
+fn between(ops: &[Op], start: usize, end: usize) -> &[Op]
+    requires order { start ≤ end }
+    requires within { end ≤ length ops.now }
+    ensures { result.now ≡ take (end - start) (drop start ops.now) }
+{
+    &ops[start..end]
+}
+
+/// The clock before an index, or else another one.
+fn before(lasts: &[u64], i: usize, or: u64) -> u64
+    requires { i ≤ length lasts.now }
+    ensures { result ≡ last_of or (take i lasts.now) }
+{
+    if i == 0 { or } else { lasts[i - 1] }
+}
+
 /// The clock of the last operation, or else another one.
 fn last_clock(ops: &[Op], or: u64) -> u64
     requires { or ≤ max_whole }
@@ -169,9 +188,38 @@ impl Own {
         self.told
     }
 
+    /// How many batches are issued.
+    pub(crate) fn issued(&self) -> usize
+        ensures { result ≡ length self.now.issued }
+    {
+        self.lasts.len()
+    }
+
+    /// The clock of an issued batch's last operation.
+    pub(crate) fn batch_end(&self, i: usize) -> u64
+        requires { i < length self.now.issued }
+        ensures { Some result ≡ slice_get (map last_clock self.now.issued) i }
+    {
+        self.lasts[i]
+    }
+
+    /// The operations of an issued batch.
+    pub(crate) fn batch(&self, i: usize) -> &[Op]
+        requires { i < length self.now.issued }
+        ensures { Some result.now ≡ slice_get (map (batch_ops self.now.actor) self.now.issued) i }
+    {
+        let start = before(self.lasts.as_slice(), i, self.told);
+        between(
+            self.ops.as_slice(),
+            (start - self.told) as usize,
+            (self.lasts[i] - self.told) as usize,
+        )
+    }
+
     /// The last clock that was issued.
     pub(crate) fn last(&self) -> u64
         ensures last { result ≡ end_of self.now }
+        ensures runs { RunsOn self.now.told self.now.issued }
         ensures bound { result ≤ max_whole }
         ensures within { self.now.told ≤ result }
     {
