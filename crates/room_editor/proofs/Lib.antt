@@ -1,0 +1,12 @@
+pub mod Bounds
+pub mod Edited
+pub mod Made
+pub mod Ordered
+pub mod Pending
+pub mod Placed
+pub mod Returning
+pub mod Running
+pub mod Sized
+pub mod Taken
+pub mod Updated
+pub mod Viewing
