@@ -1,0 +1,11 @@
+use Rattle.std.proofs.Common.{◌∙◌, ap}
+use Rattle.room_model.specs.Account.{shown}
+use Rattle.room_client.specs.Client.{parts_of, stage_of}
+use Rattle.room_client.proofs.Lasting.{shown_is}
+use Rattle.room_client.proofs.client.Client.shown.Goals as goal
+
+pub returns : goal.returns
+returns g c =
+    let s = c.self.inside in
+    c.shown.ensures ∙ shown_is s.editor (stage_of s.stage) s.sent_to (parts_of s.parts) s.events ∙ ap shown
+    c.self.view_is

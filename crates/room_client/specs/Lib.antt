@@ -1,0 +1,19 @@
+pub mod Client
+pub mod Faults
+pub mod Given
+pub use Rattle.room_json.specs.Limits
+pub use Rattle.room_json.specs.View
+pub use Rattle.room_msg.specs.Frame
+pub use Rattle.room_msg.specs.Laws
+pub use Rattle.room_msg.specs.Written
+pub use Rattle.room_items.specs.Items
+pub use Rattle.room_log.specs.Log
+pub use Rattle.room_model.specs.Account
+pub use Rattle.room_model.specs.Calls
+pub use Rattle.room_model.specs.History
+pub use Rattle.room_model.specs.Presence
+pub use Rattle.room_model.specs.Receive
+pub use Rattle.room_model.specs.Sound
+pub use Rattle.room_notice.specs.Notices
+pub use Rattle.room_editor.specs.Editor
+pub use Rattle.room_editor.specs.Faults as EditorFaults
