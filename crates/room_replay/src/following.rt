@@ -48,7 +48,7 @@ fn last_of(sessions: &Sessions, actor: u32) -> Option<u64>
 }
 
 /// The sessions with another last clock of an actor.
-fn set_last(sessions: Sessions, actor: u32, last: u64) -> Sessions
+pub fn set_last(sessions: Sessions, actor: u32, last: u64) -> Sessions
     ensures { map kept result ≡ with_last (map kept sessions) actor last }
 {
     let mut all = sessions.into_vec();

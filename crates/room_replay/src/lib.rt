@@ -5,5 +5,5 @@ mod following;
 mod opening;
 mod stepping;
 
-pub use following::follow;
+pub use following::{follow, set_last};
 pub use opening::open;

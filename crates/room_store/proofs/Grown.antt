@@ -1,17 +1,19 @@
 -- An entry that follows the state shown is added to the group that is open.
-use Rattle.std.proofs.Common.{map, ◌≡◌, Bool, true, false, ℕ, suc, List, [], ◌∷◌, ◌++◌, length, refl, sym, ap, ◌∙◌, subst, arith}
-use Rattle.std.specs.Prelude.{cond, ◌&&◌, nat_lt, Option, Some, None}
+use Rattle.std.proofs.Common.{map, ◌≡◌, ◌+◌, Bool, true, false, ℕ, suc, List, [], ◌∷◌, ◌++◌, length, refl, sym, ap, ◌∙◌, subst, arith}
+use Rattle.std.specs.Prelude.{cond, ◌&&◌, ◌==◌, nat_lt, nat_le, Option, Some, None}
 use Rattle.std.proofs.lemmas.Bool.Decides.{nat_tests}
-use Rattle.room_log.specs.Log.{State, Entry, after}
-use Rattle.room_log.specs.Follows.{IsValidState, IsSoundEntry, follows}
-use Rattle.room_log.specs.Laws.{ValidAfter}
+use Rattle.room_nodes.specs.Equal.{same_bodies}
+use Rattle.room_nodes.specs.Shallow.{all_shallow}
+use Rattle.room_nodes.specs.Steps.{settle_all}
+use Rattle.room_log.specs.Log.{State, Session, Update, Entry, Updated, after, last_from, session_of}
+use Rattle.room_log.specs.Follows.{follows, follows_session, most}
 use Rattle.room_bytes.specs.declared.entries.Entry.{Entry as Here}
 use Rattle.room_bytes.specs.Bounds.{is_written, all_written, are_written, logged}
 use Rattle.room_bytes.specs.Reading.{◌>>=◌, group_of}
 use Rattle.room_bytes.specs.declared.entries.Format.TheVariants.{Two}
 use Rattle.room_journal.specs.Rest.{IsReady, body_of}
 use Rattle.room_replay.specs.Files.{followed, followed_by}
-use Rattle.room_store.specs.Groups.{held_state, IsOpen}
+use Rattle.room_store.specs.Stored.{Grouped, held_state, IsOpenFrom}
 
 and_both : (a b : Bool) → a ≡ true → b ≡ true → (a && b) ≡ true
 and_both a b p q = rw (p, q) refl
@@ -23,6 +25,21 @@ and_first false b is = cc is
 and_second : (a b : Bool) → (a && b) ≡ true → b ≡ true
 and_second true b is = is
 and_second false b is = cc is
+
+written_by : (s : State) (u : Update) (o : Option Session) → follows_session s u o ≡ true → is_written Two (Updated u) ≡ true
+written_by s u None is = cc is
+written_by s u (Some x) is =
+    let a = u.first == x.last + 1 in
+    let b = nat_lt 0 (length u.bodies) in
+    let d = same_bodies (settle_all s.tree u.bodies) u.bodies in
+    let e = all_shallow u.bodies in
+    let f = nat_le (last_from u.first u.bodies) most && nat_lt s.count most in
+    let behind : (b && (d && (e && f))) ≡ true = and_second a (b && (d && (e && f))) is in
+    let shallow : (e && f) ≡ true = and_second d (e && f) (and_second b (d && (e && f)) behind) in
+    and_both b e (and_first b (d && (e && f)) behind) (and_first e f shallow)
+
+pub written_next : (s : State) (u : Update) → follows s (Updated u) ≡ true → is_written Two (Updated u) ≡ true
+written_next s u is = written_by s u (session_of s.sessions u.actor) is
 
 pub all_more : (es : List Entry) (e : Entry) → all_written es ≡ true → is_written Two e ≡ true → all_written (es ++ e ∷ []) ≡ true
 all_more [] e all one = and_both (is_written Two e) true one refl
@@ -53,32 +70,22 @@ pub followed_more : (s : State) (es : List Entry) (e : Entry) (t : State) → fo
 followed_more s [] e t is fits = last_more s t e (cc is) fits
 followed_more s (x ∷ es) e t is fits = next_more s x e es t (follows s x) (λ u here. followed_more u es e t here fits) is
 
-pub all_in : (o : Option State) (shown : State) (es : List Entry) (ready : List ℕ) → IsOpen o shown es ready → all_written es ≡ true
-all_in None shown es ready is = ap all_written is.0
-all_in (Some s) shown es ready is = is.written
+pub all_in : (o : Option State) (shown : State) (g : Grouped) → IsOpenFrom o shown g → all_written g.entries ≡ true
+all_in None shown g is = ap all_written is
+all_in (Some s) shown g is = is.written
 
-pub valid_in : (o : Option State) (shown : State) (es : List Entry) (ready : List ℕ) → IsOpen o shown es ready → IsValidState shown
-valid_in None shown es ready is = is.1
-valid_in (Some s) shown es ready is = is.valid
+leads : (o : Option State) (shown : State) (g : Grouped) → IsOpenFrom o shown g → followed (held_state o shown) g.entries ≡ Some shown
+leads None shown g is = ap (followed shown) is
+leads (Some s) shown g is = is.follows
 
-pub valid_before : (o : Option State) (shown : State) (es : List Entry) (ready : List ℕ) → IsOpen o shown es ready → IsValidState (held_state o shown)
-valid_before None shown es ready is = is.1
-valid_before (Some s) shown es ready is = is.before
-
-leads : (o : Option State) (shown : State) (es : List Entry) (ready : List ℕ) → IsOpen o shown es ready → followed (held_state o shown) es ≡ Some shown
-leads None shown es ready is = ap (followed shown) is.0
-leads (Some s) shown es ready is = is.follows
-
-pub grown_group : (o n : Option State) (shown next : State) (es fs : List Entry) (e : Entry) (ready bytes : List ℕ) → ValidAfter → IsOpen o shown es ready → follows shown e ≡ true → IsSoundEntry e → is_written Two e ≡ true
-    → fs ≡ es ++ e ∷ [] → IsReady bytes → group_of (body_of bytes) ≡ Some fs → next ≡ after shown e → n ≡ Some (held_state o shown) → IsOpen n next fs bytes
-grown_group o n shown next es fs e ready bytes law is fits sound one grown is_ready reads at held =
-    subst (λ (m : Option State). IsOpen m next fs bytes) (sym held) (record {
-      before = valid_before o shown es ready is;
+pub grown_group : (o n : Option State) (shown next : State) (g h : Grouped) (e : Entry) → IsOpenFrom o shown g → follows shown e ≡ true → is_written Two e ≡ true
+    → h.entries ≡ g.entries ++ e ∷ [] → IsReady h.ready → group_of (body_of h.ready) ≡ Some h.entries → next ≡ after shown e → n ≡ Some (held_state o shown) → IsOpenFrom n next h
+grown_group o n shown next g h e is fits one grown is_ready reads at held =
+    subst (λ (m : Option State). IsOpenFrom m next h) (sym held) (record {
       is_ready = is_ready;
       reads = reads;
-      written = subst (λ (l : List Entry). all_written l ≡ true) (sym grown) (all_more es e (all_in o shown es ready is) one);
-      follows = ap (followed (held_state o shown)) grown ∙ followed_more (held_state o shown) es e shown (leads o shown es ready is) fits ∙ ap (λ (t : State). Some t) (sym at);
-      valid = subst (λ (t : State). IsValidState t) (sym at) (law.entry shown e (valid_in o shown es ready is) (fits, sound));
+      written = subst (λ (l : List Entry). all_written l ≡ true) (sym grown) (all_more g.entries e (all_in o shown g is) one);
+      follows = ap (followed (held_state o shown)) grown ∙ followed_more (held_state o shown) g.entries e shown (leads o shown g is) fits ∙ ap (λ (t : State). Some t) (sym at);
     })
 
 pub logged_more : (es : List Here) (e : Here) → map logged (es ++ e ∷ []) ≡ map logged es ++ logged e ∷ []

@@ -6,3 +6,5 @@ mod Finding
 mod Opening
 mod Grown
 mod Chosen
+mod Undone
+mod Planned

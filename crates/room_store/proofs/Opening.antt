@@ -6,8 +6,8 @@ use Rattle.room_bytes.specs.Reading.{◌>>=◌}
 use Rattle.room_bytes.specs.declared.entries.Format.TheVariants.{Two}
 use Rattle.room_journal.specs.Rest.{body_of}
 use Rattle.room_replay.specs.Files.{taken, followed}
-use Rattle.room_store.specs.Groups.{IsReadyGroup}
+use Rattle.room_store.specs.Stored.{Grouped, LeadsTo}
 
-pub open_taken : (s t : State) (es : List Entry) (ready bytes : List ℕ) → IsReadyGroup s t es ready → bytes ≡ ready → taken Two s (body_of bytes) ≡ Some t
-open_taken s t es ready bytes led same =
+pub open_taken : (s t : State) (g : Grouped) (bytes : List ℕ) → LeadsTo s t g → bytes ≡ g.ready → taken Two s (body_of bytes) ≡ Some t
+open_taken s t g bytes led same =
     ap (λ (l : List ℕ). taken Two s (body_of l)) same ∙ ap (λ (o : Option (List Entry)). o >>= followed s) led.reads ∙ led.follows

@@ -1,6 +1,8 @@
+pub mod Codes
 pub mod Consistent
 pub mod Calls
-pub mod Groups
 pub mod Faults
 pub mod Planning
+pub mod Stored
+pub mod Undoing
 pub use Rattle.room_replay.specs.Files

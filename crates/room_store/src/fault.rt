@@ -5,67 +5,42 @@ ghost use Rattle.room_store.specs.Faults.{as_store, told, cause_in};
 
 use room_journal::JournalFault;
 use room_json::NoMemory;
-use std::error::Error;
-use std::fmt;
+use thiserror::Error;
 
 /// What broke a store: a fault of its disk, or that its disk was out of memory.
-#[derive(Clone, Copy, Debug, PartialEq, Eq)]
+#[derive(Clone, Copy, Debug, PartialEq, Eq, Error)]
 pub enum Cause {
+    #[error("the disk failed before")]
     Disk,
+    #[error("the disk was out of memory before")]
     Memory,
 }
 
 /// Why a call of a store was not done.
-#[derive(Clone, Copy, Debug, PartialEq, Eq)]
+#[derive(Clone, Copy, Debug, PartialEq, Eq, Error)]
 pub enum StoreFault {
     /// The store was broken before, for that cause. The room has to be recovered again.
+    #[error("broken: {0}")]
     Broken(Cause),
     /// Out of memory.
+    #[error("out of memory")]
     Memory,
     /// The disk failed.
+    #[error("the disk failed")]
     Disk,
     /// The files hold no room: this file is damaged at this offset.
+    #[error("file {0} is damaged at {1}")]
     Damaged(u32, u64),
     /// The clocks have a gap: one was expected, and another came.
+    #[error("clock {1} came where {0} was expected")]
     Gap(u64, u64),
     /// The room has so many updates, and may have no more.
+    #[error("the room is full with {0} updates")]
     Full(u64),
     /// The room has so many sessions, and may have no more.
+    #[error("the room is full with {0} sessions")]
     SessionsFull(u32),
 }
-
-impl fmt::Display for Cause {
-    fn fmt<W: fmt::Write>(&self, f: &mut fmt::Formatter<W>) -> fmt::Result {
-        match self {
-            Cause::Disk => f.write_str("the disk failed before"),
-            Cause::Memory => f.write_str("the disk was out of memory before"),
-        }
-    }
-}
-
-impl fmt::Display for StoreFault {
-    fn fmt<W: fmt::Write>(&self, f: &mut fmt::Formatter<W>) -> fmt::Result {
-        match self {
-            StoreFault::Broken(cause) => write!(f, "broken: {}", cause),
-            StoreFault::Memory => f.write_str("out of memory"),
-            StoreFault::Disk => f.write_str("the disk failed"),
-            StoreFault::Damaged(file, at) => write!(f, "file {} is damaged at {}", file, at),
-            StoreFault::Gap(expected, got) => write!(
-                f,
-                "clock {} came where {} was expected",
-                got, expected
-            ),
-            StoreFault::Full(count) => write!(f, "the room is full with {} updates", count),
-            StoreFault::SessionsFull(count) => write!(
-                f,
-                "the room is full with {} sessions",
-                count
-            ),
-        }
-    }
-}
-
-impl Error for StoreFault {}
 
 impl From<NoMemory> for StoreFault {
     ghost from_gives = { λ _ v. v ≡ Memory };

@@ -101,6 +101,7 @@ impl Kept {
             → Settled Two (D.seen disk.old) (D.images disk.old (D.moment disk.old)) self.old.journal s
             → taken Two s (body_of ready.now) ≡ Some t
             → CommitsOrStops D.seen D.moment D.stopped D.leaves self.old.journal.base s t disk.old disk.new result }
+        ensures base { OnOk result (self.new.journal.base ≡ self.old.journal.base) }
         ensures broken { IsBroken self.old.broken self.new.broken result }
         ensures came { D.came disk.old disk.new }
         ensures cause { HasDiskCause D.faults D.inner_faults D.stopped disk.old disk.new result }
@@ -128,6 +129,11 @@ impl Kept {
         ensures compacts { D.tells ≡ true → self.old.broken ≡ None
             → Compacts D.seen D.moment D.images self.old.journal self.new.journal
             (state_of state.now.count state.now.sessions (T.nodes state.now.tree)) disk.old disk.new result }
+        // Also where it was out of memory before it wrote anything.
+        ensures settled { D.tells ≡ true → self.old.broken ≡ None → self.new.broken ≡ None
+            → Settled Two (D.seen disk.new) (D.images disk.new (D.moment disk.new)) self.new.journal
+            (state_of state.now.count state.now.sessions (T.nodes state.now.tree)) }
+        ensures base { self.new.journal.base ≡ self.old.journal.base }
         ensures broken { IsBrokenOrFull self.old.broken self.new.broken result }
         ensures stop_fails { D.stopped disk.old ≡ false → D.stopped disk.new ≡ true → IsErr result }
         ensures clean { D.tells ≡ true → D.stops ≡ true → D.stopped disk.old ≡ false

@@ -4,12 +4,16 @@
 mod fault;
 mod group;
 mod kept;
+mod limits;
 mod planning;
 mod showing;
+mod starting;
 mod store;
 mod taking;
+mod undo;
 
 pub use fault::{Cause, StoreFault};
 pub use group::Group;
-pub use store::{Limits, Store};
+pub use limits::Limits;
+pub use store::Store;
 pub use taking::Taken;

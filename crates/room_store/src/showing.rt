@@ -4,6 +4,8 @@ ghost use Rattle.std.specs.Option.{option_copied};
 ghost use Rattle.room_log.specs.Log.{session_of, last_of};
 ghost use Rattle.room_snapshot.specs.Bounds.{kept};
 
+use crate::fault::Cause;
+use crate::limits::Limits;
 use crate::store::Store;
 use room_bytes::{Session, Sessions};
 use room_json::Text;
@@ -20,16 +22,30 @@ fn session_at(sessions: &Sessions, actor: u32) -> Option<&Session>
 }
 
 impl<T: Tree> Store<T> {
+    /// The limits.
+    pub fn limits(&self) -> Limits
+        ensures { result ≡ self.now.limits }
+    {
+        self.limits
+    }
+
+    /// What broke it.
+    pub fn broken(&self) -> Option<Cause>
+        ensures { result ≡ self.now.broken }
+    {
+        self.kept.broken
+    }
+
     /// The number of sessions. Their actors are 1, 2, .. up to it.
-    pub fn sessions(&self) -> u64
+    pub fn sessions(&self) -> u32
         ensures { result ≡ length self.now.state.sessions }
     {
-        self.state.sessions.len()
+        self.state.sessions.len() as u32
     }
 
     /// The last clock of an actor, 0 for one without a session.
     pub fn last_of(&self, actor: u32) -> u64
-        ensures { result ≡ last_of (map kept self.now.state.sessions) actor }
+        ensures { result ≡ last_of self.now.state.sessions actor }
     {
         match session_at(&self.state.sessions, actor) {
             Some(session) => session.last,
@@ -39,7 +55,7 @@ impl<T: Tree> Store<T> {
 
     /// The key of an actor that has a session.
     pub fn key_of(&self, actor: u32) -> Option<u64>
-        ensures { result ≡ option_map (λ s. s.key) (session_of (map kept self.now.state.sessions) actor) }
+        ensures { result ≡ option_map (λ s. s.key) (session_of self.now.state.sessions actor) }
     {
         match session_at(&self.state.sessions, actor) {
             Some(session) => Some(session.key),
@@ -49,8 +65,7 @@ impl<T: Tree> Store<T> {
 
     /// The name that an actor that has a session gave.
     pub fn name_of(&self, actor: u32) -> Option<&Text>
-        ensures { option_copied result
-            ≡ option_map (λ s. s.name) (session_of (map kept self.now.state.sessions) actor) }
+        ensures { option_copied result ≡ option_map (λ s. s.name) (session_of self.now.state.sessions actor) }
     {
         match session_at(&self.state.sessions, actor) {
             Some(session) => Some(&session.name),

@@ -1,221 +1,65 @@
 //! The store of a room: its state, and the two files that hold it.
-ghost use Rattle.std.specs.Prelude.{◌≡◌, ◌⊎◌, ◌≤◌, ◌<◌, ◌^◌, ◌+◌, ℕ, length, IfOk, IfErr, OnOk, OnErr, IsErr, IsErrOf};
-ghost use Rattle.std.specs.Prelude.{option_map, map};
+ghost use Rattle.std.specs.Prelude.{◌≡◌, ◌⊎◌, ◌≤◌, ◌<◌, ◌^◌, ◌+◌, ℕ, IfOk, IfErr, IfSome, OnOk, OnErr, IsErr, IsErrOf};
 ghost use Rattle.std.specs.Prelude.{true, false, Some, None};
-ghost use Rattle.room_log.specs.Log.{State};
-ghost use Rattle.room_store.specs.Consistent.{BeforeOr};
-ghost use Rattle.room_log.specs.Follows.{IsValidState};
-ghost use Rattle.room_nodes.specs.Shape.{empty_tree};
-ghost use Rattle.room_snapshot.specs.Bounds.{state_of};
-ghost use Rattle.room_journal.specs.Appends.{IsClean};
-ghost use Rattle.room_journal.specs.Files.{reading};
-ghost use Rattle.room_journal.specs.Found.{IsFound, HasShape};
-ghost use Rattle.room_disk.specs.Model.{Only};
 ghost use Rattle.room_disk.specs.Model.{WithinWhole};
-ghost use Rattle.room_bytes.specs.declared.entries.Format.TheVariants.{Two};
+ghost use Rattle.room_nodes.specs.Shape.{empty_tree};
+ghost use Rattle.room_log.specs.Log.{State};
+ghost use Rattle.room_log.specs.Follows.{IsValidState, most};
+ghost use Rattle.room_journal.specs.Appends.{IsClean};
 ghost use Rattle.room_replay.specs.Files.{Stands, StandsFor, files};
-ghost use Rattle.room_store.specs.Consistent.{Settled, IsKept, Since};
 ghost use Rattle.room_store.specs.Calls.{Compacts, Commits, CommitsOrStops};
-ghost use Rattle.room_store.specs.Groups.{held_state, IsOpen};
-ghost use Rattle.room_bytes.specs.Bounds.{logged};
+ghost use Rattle.room_store.specs.Consistent.{BeforeOr, Since};
 ghost use Rattle.room_store.specs.Faults.{IsFault, HasDiskCause, IsBroken, IsBrokenOrFull};
+ghost use Rattle.room_store.specs.Stored.{held, IsOpen, IsOnDisk};
 
-use crate::fault::{StoreFault, as_store, told};
+use crate::fault::StoreFault;
 use crate::group::Group;
-use crate::kept::{Kept, ready_state, renew};
-use room_bytes::Format;
+use crate::kept::Kept;
+use crate::limits::Limits;
+use crate::starting::start;
+use crate::undo::{Undo, undo_all};
 use room_disk::{Disk, Stop};
-use room_journal::{Found, Journal};
-use room_json::Seq;
-use room_log::valid_after;
-use room_replay::open;
 use room_snapshot::Snapshot;
 use room_tree::Tree;
 use std::alloc::Global;
+use std::marker::Model;
 
-/// How many updates and sessions a room may have.
-#[derive(Clone, Copy, Debug, PartialEq, Eq)]
-pub struct Limits {
-    pub updates: u64,
-    pub sessions: u32,
-}
-
-/// A room's state, its files, and its limits.
+/// A room's state, its files, and its limits. Contracts see where the files go on, what broke them, the state after the
+/// group that is open, the state before it, and the limits.
+///
+/// There is one tree, the one that is shown. What takes it back to the state before the group is kept beside it.
 #[derive(Drop)]
 pub struct Store<T: Tree> {
     pub(crate) kept: Kept,
     /// The state shown, after the group that is open.
     pub(crate) state: Snapshot<T>,
-    /// The state before the group that is open.
-    pub(crate) before: Option<Snapshot<T>>,
+    /// What takes the entries of the group back; nothing where none is open.
+    pub(crate) undo: Vec<Undo>,
     pub(crate) limits: Limits,
 }
 
-/// Makes a file of the next generation for this state.
-fn make_file<D: Disk, T: Tree>(
-    alloc: Global,
-    disk: &mut D,
-    journal: &mut Journal,
-    state: &Snapshot<T>,
-) -> Result<(), StoreFault>
-    requires { journal.old.base + 1 < 2 ^ 32 }
+impl<T: Tree> Model for Store<T> {
+    ghost use Rattle.std.specs.Prelude.{◌+◌};
+    ghost use Rattle.std.specs.FinMap.{len};
+    ghost use Rattle.room_snapshot.specs.Bounds.{state_of};
+    ghost use Rattle.room_store.specs.Codes.{stored_code};
+    ghost use Rattle.room_store.specs.Stored.{Stored};
+    ghost use Rattle.room_store.specs.Undoing.{before_of, IsWhole};
 
-    ensures compacts { D.tells ≡ true
-        → IsKept (D.seen disk.old) (D.images disk.old (D.moment disk.old)) journal.old
-        (state_of state.now.count state.now.sessions (T.nodes state.now.tree))
-        → Compacts D.seen D.moment D.images journal.old journal.new
-        (state_of state.now.count state.now.sessions (T.nodes state.now.tree)) disk.old disk.new result }
-    ensures base { journal.new.base ≡ journal.old.base }
-    ensures small { journal.old.end < 2 ^ 62 → OnOk result (journal.new.end < 2 ^ 62) }
-    ensures fault { IfErr result (λ e. (e ≡ StoreFault.Disk) ⊎ (e ≡ StoreFault.Memory)) }
-    ensures stop_fails { D.stopped disk.old ≡ false → D.stopped disk.new ≡ true → IsErr result }
-    ensures clean { D.tells ≡ true → D.stops ≡ true → D.stopped disk.old ≡ false
-        → IsClean D.seen D.leaves disk.old → OnOk result (IsClean D.seen D.leaves disk.new) }
-    ensures came { D.came disk.old disk.new }
-    ensures cause { HasDiskCause D.faults D.inner_faults D.stopped disk.old disk.new result }
-{
-    let ready = ready_state(alloc, &*journal, state.count, &state.sessions, &state.tree)?;
-    told(renew(journal, disk, ready.as_slice()))
-}
+    ghost Value = { Stored };
 
-/// A store that begins with this state, in a file of the next generation.
-fn begin<D: Disk, T: Tree>(
-    alloc: Global,
-    disk: &mut D,
-    journal: Journal,
-    state: Snapshot<T>,
-    limits: Limits,
-) -> Result<Store<T>, StoreFault>
-    requires base { journal.base + 1 < 2 ^ 32 }
-    requires small { journal.end < 2 ^ 62 }
+    ghost coded = { stored_code };
 
-    ensures state { IfOk result (λ s. state_of s.state.count s.state.sessions (T.nodes s.state.tree)
-        ≡ state_of state.count state.sessions (T.nodes state.tree)) }
-    ensures base { IfOk result (λ s. s.kept.journal.base ≡ journal.base) }
-    ensures whole { IfOk result (λ s. s.kept.broken ≡ None) }
-    ensures closed { IfOk result (λ s. s.before ≡ None) }
-    ensures limits { IfOk result (λ s. s.limits ≡ limits) }
-    ensures valid { IsValidState (state_of state.count state.sessions (T.nodes state.tree))
-        → IfOk result (λ s. IsValidState (state_of s.state.count s.state.sessions (T.nodes s.state.tree))) }
-    ensures settled { D.tells ≡ true
-        → IsKept (D.seen disk.old) (D.images disk.old (D.moment disk.old)) journal
-        (state_of state.count state.sessions (T.nodes state.tree))
-        → IfOk result (λ s. Settled Two (D.seen disk.new) (D.images disk.new (D.moment disk.new)) s.kept.journal
-        (state_of state.count state.sessions (T.nodes state.tree))) }
-    ensures any_moment { D.tells ≡ true
-        → IsKept (D.seen disk.old) (D.images disk.old (D.moment disk.old)) journal
-        (state_of state.count state.sessions (T.nodes state.tree))
-        → WithinWhole D.moment D.images disk.old disk.new
-        (StandsFor journal.base (state_of state.count state.sessions (T.nodes state.tree))) }
-    ensures others { D.tells ≡ true
-        → IsKept (D.seen disk.old) (D.images disk.old (D.moment disk.old)) journal
-        (state_of state.count state.sessions (T.nodes state.tree))
-        → (f : ℕ) → (f ≡ journal.base → ⊥) → (f ≡ journal.base + 1 → ⊥) → D.seen disk.new f ≡ D.seen disk.old f }
-    ensures fault { IfErr result (λ e. (e ≡ StoreFault.Disk) ⊎ (e ≡ StoreFault.Memory)) }
-    ensures stop_fails { D.stopped disk.old ≡ false → D.stopped disk.new ≡ true → IsErr result }
-    ensures clean { D.tells ≡ true → D.stops ≡ true → D.stopped disk.old ≡ false
-        → IsClean D.seen D.leaves disk.old → OnOk result (IsClean D.seen D.leaves disk.new) }
-    ensures came { D.came disk.old disk.new }
-    ensures cause { HasDiskCause D.faults D.inner_faults D.stopped disk.old disk.new result }
-{
-    let mut journal = journal;
-    match make_file(alloc, disk, &mut journal, &state) {
-        Ok(()) => Ok(Store {
-            kept: Kept {
-                journal,
-                broken: None,
-            },
-            state,
-            before: None,
-            limits,
-        }),
-        Err(fault) => Err(fault),
-    }
-}
+    ghost view = { λ s. record {
+      place = s.kept.journal;
+      broken = s.kept.broken;
+      state = state_of s.state.count s.state.sessions (T.Tree.nodes s.state.tree);
+      before = before_of (state_of s.state.count s.state.sessions (T.Tree.nodes s.state.tree)) s.undo.items;
+      limits = s.limits;
+    } };
 
-/// The store of files that were read.
-fn resume<D: Disk, T: Tree>(
-    alloc: Global,
-    disk: &mut D,
-    base: u32,
-    found: Found,
-    empty: T,
-    limits: Limits,
-) -> Result<Store<T>, StoreFault>
-    requires base { base + 1 < 2 ^ 32 }
-    requires shape { HasShape base found }
-    requires empty { T.nodes empty ≡ empty_tree }
-    requires found { D.tells ≡ true
-        → IsFound base (reading base (D.seen disk.old base) (D.seen disk.old (base + 1))) found }
-    requires first { D.tells ≡ true → Only (D.seen disk.old base) (D.images disk.old (D.moment disk.old) base) }
-    requires second { D.tells ≡ true
-        → Only (D.seen disk.old (base + 1)) (D.images disk.old (D.moment disk.old) (base + 1)) }
-
-    ensures base { IfOk result (λ s. s.kept.journal.base ≡ base) }
-    ensures whole { IfOk result (λ s. s.kept.broken ≡ None) }
-    ensures closed { IfOk result (λ s. s.before ≡ None) }
-    ensures limits { IfOk result (λ s. s.limits ≡ limits) }
-    ensures valid { IfOk result (λ s. IsValidState (state_of s.state.count s.state.sessions (T.nodes s.state.tree))) }
-    ensures state { D.tells ≡ true → IfOk result (λ s.
-        Stands (state_of s.state.count s.state.sessions (T.nodes s.state.tree))
-        (files base (D.seen disk.old base) (D.seen disk.old (base + 1)))) }
-    ensures settled { D.tells ≡ true → IfOk result (λ s.
-        Settled Two (D.seen disk.new) (D.images disk.new (D.moment disk.new)) s.kept.journal
-        (state_of s.state.count s.state.sessions (T.nodes s.state.tree))) }
-    ensures any_moment { D.tells ≡ true → (s : State)
-        → Stands s (files base (D.seen disk.old base) (D.seen disk.old (base + 1)))
-        → WithinWhole D.moment D.images disk.old disk.new (StandsFor base s) }
-    ensures others { D.tells ≡ true → (f : ℕ) → (f ≡ base → ⊥) → (f ≡ base + 1 → ⊥)
-        → D.seen disk.new f ≡ D.seen disk.old f }
-    ensures fault { D.tells ≡ true → IfErr result (λ e. (e ≡ StoreFault.Disk)
-        ⊎ IsFault (files base (D.seen disk.old base) (D.seen disk.old (base + 1))) e) }
-    ensures stop_fails { D.stopped disk.old ≡ false → D.stopped disk.new ≡ true → IsErr result }
-    ensures clean { D.tells ≡ true → D.stops ≡ true → D.stopped disk.old ≡ false
-        → IsClean D.seen D.leaves disk.old → OnOk result (IsClean D.seen D.leaves disk.new) }
-    ensures came { D.came disk.old disk.new }
-    ensures cause { HasDiskCause D.faults D.inner_faults D.stopped disk.old disk.new result }
-{
-    valid_after();
-    let Found {
-        journal,
-        file,
-        format,
-        snapshot,
-        bodies,
-        broken,
-    } = found;
-    let Some(snapshot) = snapshot else {
-        let state = Snapshot {
-            count: 0,
-            sessions: Seq::new(alloc),
-            tree: empty,
-        };
-        return begin(alloc, disk, journal, state, limits);
-    };
-    let state = match open(
-        alloc,
-        format,
-        file,
-        empty,
-        snapshot.as_slice(),
-        bodies.as_slice(),
-        broken,
-    ) {
-        Ok(state) => state,
-        Err(fault) => return Err(as_store(fault)),
-    };
-    match format {
-        Format::One => begin(alloc, disk, journal, state, limits),
-        Format::Two => Ok(Store {
-            kept: Kept {
-                journal,
-                broken: None,
-            },
-            state,
-            before: None,
-            limits,
-        }),
-    }
+    ghost invariant = { λ s. IsWhole (len (T.Tree.nodes s.state.tree) + T.Tree.spare s.state.tree)
+        (state_of s.state.count s.state.sessions (T.Tree.nodes s.state.tree)) s.undo.items s.limits };
 }
 
 impl<T: Tree> Store<T> {
@@ -230,20 +74,17 @@ impl<T: Tree> Store<T> {
     ) -> Result<Store<T>, StoreFault>
         requires base { base + 1 < 2 ^ 32 }
         requires empty { T.nodes empty ≡ empty_tree }
+        requires limits { limits.updates ≤ most }
 
-        ensures base { IfOk result (λ s. s.kept.journal.base ≡ base) }
-        ensures whole { IfOk result (λ s. s.kept.broken ≡ None) }
+        ensures base { IfOk result (λ s. s.place.base ≡ base) }
+        ensures whole { IfOk result (λ s. s.broken ≡ None) }
         ensures closed { IfOk result (λ s. s.before ≡ None) }
         ensures limits { IfOk result (λ s. s.limits ≡ limits) }
-        ensures valid { IfOk result (λ s.
-            IsValidState (state_of s.state.count s.state.sessions (T.nodes s.state.tree))) }
         // It is the state that the files stand for as they read, and it is on the disk.
         ensures state { D.tells ≡ true → IfOk result (λ s.
-            Stands (state_of s.state.count s.state.sessions (T.nodes s.state.tree))
-            (files base (D.seen disk.old base) (D.seen disk.old (base + 1)))) }
+            Stands s.state (files base (D.seen disk.old base) (D.seen disk.old (base + 1)))) }
         ensures settled { D.tells ≡ true → IfOk result (λ s.
-            Settled Two (D.seen disk.new) (D.images disk.new (D.moment disk.new)) s.kept.journal
-            (state_of s.state.count s.state.sessions (T.nodes s.state.tree))) }
+            IsOnDisk (D.seen disk.new) (D.images disk.new (D.moment disk.new)) s) }
         // At each moment each image is one from before the call, or stands for that state.
         ensures any_moment { D.tells ≡ true → (s : State)
             → Stands s (files base (D.seen disk.old base) (D.seen disk.old (base + 1)))
@@ -251,8 +92,7 @@ impl<T: Tree> Store<T> {
             (BeforeOr (D.images disk.old (D.moment disk.old)) (StandsFor base s)) }
         // At each moment since the two syncs each image stands for it.
         ensures since { D.tells ≡ true → IfOk result (λ s.
-            Since (D.moment disk.old + 2) (D.moment disk.new) (D.images disk.new)
-            (StandsFor base (state_of s.state.count s.state.sessions (T.nodes s.state.tree)))) }
+            Since (D.moment disk.old + 2) (D.moment disk.new) (D.images disk.new) (StandsFor base s.state)) }
         ensures others { D.tells ≡ true → (f : ℕ) → (f ≡ base → ⊥) → (f ≡ base + 1 → ⊥)
             → D.seen disk.new f ≡ D.seen disk.old f }
         ensures fault { D.tells ≡ true → IfErr result (λ e. (e ≡ StoreFault.Disk)
@@ -263,15 +103,29 @@ impl<T: Tree> Store<T> {
         ensures came { D.came disk.old disk.new }
         ensures cause { HasDiskCause D.faults D.inner_faults D.stopped disk.old disk.new result }
     {
-        match Journal::recover(alloc, disk, base) {
-            Ok(found) => resume(alloc, disk, base, found, empty, limits),
-            Err(fault) => Err(as_store(fault)),
+        match start(alloc, disk, base, empty) {
+            Ok(begun) => Ok(Store {
+                kept: begun.kept,
+                state: begun.state,
+                undo: Vec::new(alloc),
+                limits,
+            }),
+            Err(fault) => Err(fault),
         }
+    }
+
+    /// The state is valid, and so is the one before the group; the limits are in range.
+    pub fn valid(&self)
+        ensures state { IsValidState self.now.state }
+        ensures before { IfSome self.now.before IsValidState }
+        ensures limits { self.now.limits.updates ≤ most }
+    {
+        let _ = &self.limits;
     }
 
     /// The tree, after the group that is open.
     pub fn tree(&self) -> &T
-        ensures { result.now ≡ self.now.state.tree }
+        ensures { T.nodes result.now ≡ self.now.state.tree }
     {
         &self.state.tree
     }
@@ -285,10 +139,8 @@ impl<T: Tree> Store<T> {
 
     /// Other limits, from the next planning on.
     pub fn set_limits(&mut self, limits: Limits)
-        ensures limits { self.new.limits ≡ limits }
-        ensures state { self.new.state ≡ self.old.state }
-        ensures before { self.new.before ≡ self.old.before }
-        ensures kept { self.new.kept ≡ self.old.kept }
+        requires { limits.updates ≤ most }
+        ensures { self.new ≡ record self.old { limits = limits } }
     {
         self.limits = limits;
     }
@@ -296,18 +148,19 @@ impl<T: Tree> Store<T> {
     /// Writes the state as the snapshot of a file of the next generation, by six calls, or nothing at the last
     /// generation. No group may be open.
     pub fn compact<D: Disk>(&mut self, alloc: Global, disk: &mut D) -> Result<(), StoreFault>
-        requires { D.tells ≡ true → self.old.kept.broken ≡ None
-            → Settled Two (D.seen disk.old) (D.images disk.old (D.moment disk.old)) self.old.kept.journal
-            (state_of self.old.state.count self.old.state.sessions (T.nodes self.old.state.tree)) }
+        requires closed { self.old.before ≡ None }
+        requires settled { D.tells ≡ true
+            → IsOnDisk (D.seen disk.old) (D.images disk.old (D.moment disk.old)) self.old }
 
-        ensures compacts { D.tells ≡ true → self.old.kept.broken ≡ None
-            → Compacts D.seen D.moment D.images self.old.kept.journal self.new.kept.journal
-            (state_of self.old.state.count self.old.state.sessions (T.nodes self.old.state.tree))
-            disk.old disk.new result }
+        ensures settled { D.tells ≡ true
+            → IsOnDisk (D.seen disk.new) (D.images disk.new (D.moment disk.new)) self.new }
+        ensures compacts { D.tells ≡ true → self.old.broken ≡ None
+            → Compacts D.seen D.moment D.images self.old.place self.new.place self.old.state disk.old disk.new result }
+        ensures base { self.new.place.base ≡ self.old.place.base }
         ensures state { self.new.state ≡ self.old.state }
-        ensures before { self.new.before ≡ self.old.before }
+        ensures before { self.new.before ≡ None }
         ensures limits { self.new.limits ≡ self.old.limits }
-        ensures broken { IsBrokenOrFull self.old.kept.broken self.new.kept.broken result }
+        ensures broken { IsBrokenOrFull self.old.broken self.new.broken result }
         ensures stop_fails { D.stopped disk.old ≡ false → D.stopped disk.new ≡ true → IsErr result }
         ensures clean { D.tells ≡ true → D.stops ≡ true → D.stopped disk.old ≡ false
             → IsClean D.seen D.leaves disk.old → OnOk result (IsClean D.seen D.leaves disk.new) }
@@ -319,63 +172,52 @@ impl<T: Tree> Store<T> {
 
     /// Goes back to the state before the group. Takes no memory.
     pub fn drop_group(&mut self, g: Group)
-        ensures state { state_of self.new.state.count self.new.state.sessions (T.nodes self.new.state.tree)
-            ≡ held_state
-            (option_map (λ s. state_of s.count s.sessions (T.nodes s.tree)) self.old.before)
-            (state_of self.old.state.count self.old.state.sessions (T.nodes self.old.state.tree)) }
+        ensures state { self.new.state ≡ held self.old }
         ensures closed { self.new.before ≡ None }
+        ensures place { self.new.place ≡ self.old.place }
+        ensures broken { self.new.broken ≡ self.old.broken }
         ensures limits { self.new.limits ≡ self.old.limits }
-        ensures kept { self.new.kept ≡ self.old.kept }
     {
         drop(g);
-        if let Some(before) = std::mem::replace(&mut self.before, None) {
-            self.state = before;
-        }
+        undo_all(&mut self.state, &mut self.undo);
     }
 
     /// Puts the group's entries on the disk, by four calls; an empty group by none. Where it answers an Err, the store
     /// goes back to the state before the group. Takes no memory.
     pub fn commit<D: Disk>(&mut self, disk: &mut D, g: Group) -> Result<(), StoreFault>
-        requires group { IsOpen
-            (option_map (λ s. state_of s.count s.sessions (T.nodes s.tree)) self.old.before)
-            (state_of self.old.state.count self.old.state.sessions (T.nodes self.old.state.tree))
-            (map logged g.entries) g.ready }
-        requires settled { D.tells ≡ true → self.old.kept.broken ≡ None
-            → Settled Two (D.seen disk.old) (D.images disk.old (D.moment disk.old)) self.old.kept.journal
-            (held_state (option_map (λ s. state_of s.count s.sessions (T.nodes s.tree)) self.old.before)
-            (state_of self.old.state.count self.old.state.sessions (T.nodes self.old.state.tree))) }
+        requires group { IsOpen self.old g }
+        requires settled { D.tells ≡ true
+            → IsOnDisk (D.seen disk.old) (D.images disk.old (D.moment disk.old)) self.old }
 
+        ensures settled { D.tells ≡ true
+            → IsOnDisk (D.seen disk.new) (D.images disk.new (D.moment disk.new)) self.new }
         // From the state s before the group to the state shown.
-        ensures commits { D.tells ≡ true → self.old.kept.broken ≡ None → (s : State)
-            → option_map (λ s. state_of s.count s.sessions (T.nodes s.tree)) self.old.before ≡ Some s
-            → Commits D.seen D.moment D.images self.old.kept.journal self.new.kept.journal s
-            (state_of self.old.state.count self.old.state.sessions (T.nodes self.old.state.tree))
+        ensures commits { D.tells ≡ true → self.old.broken ≡ None → (s : State) → self.old.before ≡ Some s
+            → Commits D.seen D.moment D.images self.old.place self.new.place s self.old.state
             disk.old disk.new result }
-        ensures stop { D.tells ≡ true → D.stops ≡ true → D.stopped disk.old ≡ false → self.old.kept.broken ≡ None
-            → (s : State)
-            → option_map (λ s. state_of s.count s.sessions (T.nodes s.tree)) self.old.before ≡ Some s
-            → CommitsOrStops D.seen D.moment D.stopped D.leaves self.old.kept.journal.base s
-            (state_of self.old.state.count self.old.state.sessions (T.nodes self.old.state.tree))
+        ensures stop { D.tells ≡ true → D.stops ≡ true → D.stopped disk.old ≡ false → self.old.broken ≡ None
+            → (s : State) → self.old.before ≡ Some s
+            → CommitsOrStops D.seen D.moment D.stopped D.leaves self.old.place.base s self.old.state
             disk.old disk.new result }
         ensures none { self.old.before ≡ None → disk.new ≡ disk.old }
+        ensures base { OnOk result (self.new.place.base ≡ self.old.place.base) }
         ensures shown { OnOk result (self.new.state ≡ self.old.state) }
-        ensures back { OnErr result (state_of self.new.state.count self.new.state.sessions (T.nodes self.new.state.tree)
-            ≡ held_state
-            (option_map (λ s. state_of s.count s.sessions (T.nodes s.tree)) self.old.before)
-            (state_of self.old.state.count self.old.state.sessions (T.nodes self.old.state.tree))) }
+        ensures back { OnErr result (self.new.state ≡ held self.old) }
         ensures closed { self.new.before ≡ None }
         ensures limits { self.new.limits ≡ self.old.limits }
-        ensures broken { IsBroken self.old.kept.broken self.new.kept.broken result }
+        ensures broken { IsBroken self.old.broken self.new.broken result }
         ensures came { D.came disk.old disk.new }
         ensures cause { HasDiskCause D.faults D.inner_faults D.stopped disk.old disk.new result }
         ensures memory { IsErrOf result StoreFault.Memory → D.may_run_out ≡ true }
     {
-        let Some(before) = std::mem::replace(&mut self.before, None) else {
+        if self.undo.is_empty() {
             return self.kept.check();
-        };
+        }
         let answer = self.kept.append(disk, g.ready.as_slice());
-        if answer.is_err() {
-            self.state = before;
+        if answer.is_ok() {
+            self.undo.clear();
+        } else {
+            undo_all(&mut self.state, &mut self.undo);
         }
         answer
     }

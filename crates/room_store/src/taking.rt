@@ -1,18 +1,18 @@
 //! What a store takes of the operations that a session sends.
-ghost use Rattle.std.specs.Prelude.{◌≡◌, ◌≤◌, ◌+◌, map, IfOk};
-ghost use Rattle.room_nodes.specs.Steps.{settle_all};
+ghost use Rattle.std.specs.Prelude.{◌≡◌, ◌≤◌, ◌<◌, ◌+◌, ◌++◌, ◌∷◌, [], length, nat_lt, vec_len, vec_capacity};
+ghost use Rattle.std.specs.Prelude.{IfOk, OnOk};
+ghost use Rattle.std.specs.FinMap.{len};
+ghost use Rattle.room_nodes.specs.Steps.{settle_all, settled_body, fold, step as step_of};
 ghost use Rattle.room_log.specs.Log.{bodies_of, ops_from};
-ghost use Rattle.room_log.specs.Log.{last_of};
-ghost use Rattle.room_log.specs.Taking.{rest_beyond, gap_in, take};
-ghost use Rattle.room_snapshot.specs.Bounds.{state_of, kept};
-ghost use Rattle.room_store.specs.Planning.{chosen};
+ghost use Rattle.room_log.specs.Taking.{rest_beyond, gap_in};
+ghost use Rattle.room_store.specs.Planning.{news_in};
+ghost use Rattle.room_store.specs.Undoing.{gone, CanGo};
 
-use room_apply::step;
+use room_apply::{Edits, step};
 use room_ids::{OpId, Stamp};
 use room_json::{Copied, NoMemory};
 use room_nodes::{Bodies, Body, Op, Ops};
-use room_snapshot::Snapshot;
-use room_tree::{Tree, copy_of, settled};
+use room_tree::{Tree, settled};
 use std::alloc::Global;
 
 /// What a planning took: nothing, or an update with its number and its operations as they settled.
@@ -22,55 +22,120 @@ pub enum Taken {
     Update { seq: u64, ops: Ops },
 }
 
-/// What is taken: nothing, or an update with its first clock and its settled operations; or the clocks have a gap.
+/// What is new of operations: nothing, or the clocks have a gap, or they run on.
 #[derive(Drop)]
-pub enum Choice {
+pub enum News {
     Nothing,
     Gap(u64, u64),
-    Takes(u64, Bodies),
+    RunOn,
 }
 
-/// The operations beyond the last clock.
-pub fn rest_of(alloc: Global, last: u64, ops: &[Op]) -> Result<Ops, NoMemory>
-    ensures { IfOk result (λ os. os ≡ rest_beyond last ops.now) }
+/// Whether an operation is beyond the last clock.
+fn is_any_new(last: u64, ops: &[Op]) -> bool
+    ensures { result ≡ nat_lt 0 (length (rest_beyond last ops.now)) }
 {
-    let mut rest = Ops::new(alloc);
     for op in ops {
         let OpId(stamp) = op.id;
         if last < stamp.clock() {
-            rest.push(op.copy(alloc)?)?;
+            return true;
         }
     }
-    Ok(rest)
+    false
 }
 
-/// Where the clocks don't run on: which was expected there, and which came.
-pub fn gap_of(last: u64, ops: &[Op]) -> Option<(u64, u64)>
+/// Where the clocks of the operations beyond the last one don't run on: which was expected there, and which came.
+fn gap_of(last: u64, ops: &[Op]) -> Option<(u64, u64)>
     requires { last + 1 ≤ 9007199254740992 }
-    ensures { result ≡ gap_in (last + 1) ops.now }
+    ensures { result ≡ gap_in (last + 1) (rest_beyond last ops.now) }
 {
     let mut expected = last + 1;
     for op in ops {
         let OpId(stamp) = op.id;
         let clock = stamp.clock();
-        if clock != expected {
-            return Some((expected, clock));
+        if last < clock {
+            if clock != expected {
+                return Some((expected, clock));
+            }
+            expected = clock + 1;
         }
-        expected = clock + 1;
     }
     None
 }
 
-/// Each operation settled on the tree after those before it.
-pub fn settled_all<T: Tree>(alloc: Global, t: T, ops: &[Op]) -> Result<Bodies, NoMemory>
-    ensures { IfOk result (λ bs. bs ≡ settle_all (T.nodes t) (bodies_of ops.now)) }
+/// What is new of operations beyond the last clock. Takes no memory.
+pub fn news_of(last: u64, ops: &[Op]) -> News
+    requires { last + 1 ≤ 9007199254740992 }
+    ensures { result ≡ news_in (rest_beyond last ops.now) (gap_in (last + 1) (rest_beyond last ops.now)) }
 {
-    let mut t = t;
+    if !is_any_new(last, ops) {
+        return News::Nothing;
+    }
+    match gap_of(last, ops) {
+        Some((expected, got)) => News::Gap(expected, got),
+        None => News::RunOn,
+    }
+}
+
+/// Adds what takes a step back, where there is room.
+fn keep(steps: &mut Vec<Edits>, one: Edits)
+    requires room { vec_len steps.old < vec_capacity steps.old }
+    ensures items { steps.new.items ≡ steps.old.items ++ one ∷ [] }
+    ensures len { vec_len steps.new ≡ vec_len steps.old + 1 }
+    ensures capacity { vec_capacity steps.old ≤ vec_capacity steps.new }
+{
+    match steps.push(one) {
+        Ok(()) => (),
+        Err(_) => unreachable!(),
+    }
+}
+
+/// Steps a tree by an operation as it settles, and keeps what takes that back.
+fn step_one<T: Tree>(
+    alloc: Global,
+    t: &mut T,
+    op: &Op,
+    steps: &mut Vec<Edits>,
+) -> Result<Body, NoMemory>
+    requires room { vec_len steps.old < vec_capacity steps.old }
+    ensures body { IfOk result (λ b. b ≡ settled_body (T.nodes t.old) op.now.body) }
+    ensures tree { OnOk result (T.nodes t.new ≡ step_of (T.nodes t.old) (settled_body (T.nodes t.old) op.now.body)) }
+    ensures gone { gone (T.nodes t.new) steps.new.items ≡ gone (T.nodes t.old) steps.old.items }
+    ensures can { CanGo (len (T.nodes t.old) + T.spare t.old) (T.nodes t.old) steps.old.items
+        → CanGo (len (T.nodes t.new) + T.spare t.new) (T.nodes t.new) steps.new.items }
+    ensures len { vec_len steps.new ≤ vec_len steps.old + 1 }
+    ensures capacity { vec_capacity steps.old ≤ vec_capacity steps.new }
+    ensures sum { len (T.nodes t.old) + T.spare t.old ≤ len (T.nodes t.new) + T.spare t.new }
+{
+    let next = settled(alloc, &*t, op)?;
+    keep(steps, step(alloc, t, &next)?);
+    Ok(next.body)
+}
+
+/// Steps a tree by the operations beyond the last clock, each as it settles on the tree after those before it, as far
+/// as there is memory; and keeps what takes the steps back.
+pub fn step_each<T: Tree>(
+    alloc: Global,
+    t: &mut T,
+    last: u64,
+    ops: &[Op],
+    steps: &mut Vec<Edits>,
+) -> Result<Bodies, NoMemory>
+    requires room { vec_len steps.old + length ops.now ≤ vec_capacity steps.old }
+    requires none { steps.old.items ≡ [] }
+    ensures bodies { IfOk result (λ bs. bs ≡ settle_all (T.nodes t.old) (bodies_of (rest_beyond last ops.now))) }
+    ensures tree { OnOk result (T.nodes t.new
+        ≡ fold (T.nodes t.old) (settle_all (T.nodes t.old) (bodies_of (rest_beyond last ops.now)))) }
+    ensures gone { gone (T.nodes t.new) steps.new.items ≡ T.nodes t.old }
+    ensures can { CanGo (len (T.nodes t.new) + T.spare t.new) (T.nodes t.new) steps.new.items }
+    ensures sum { len (T.nodes t.old) + T.spare t.old ≤ len (T.nodes t.new) + T.spare t.new }
+{
     let mut bodies = Bodies::new(alloc);
     for op in ops {
-        let next = settled(alloc, &t, op)?;
-        drop(step(alloc, &mut t, &next)?);
-        bodies.push(next.body)?;
+        let OpId(stamp) = op.id;
+        if last < stamp.clock() {
+            let body = step_one(alloc, t, op, steps)?;
+            bodies.push(body)?;
+        }
     }
     Ok(bodies)
 }
@@ -92,29 +157,4 @@ pub fn ops_of(alloc: Global, actor: u32, first: u64, bodies: &[Body]) -> Result<
         clock = stamp.clock() + 1;
     }
     Ok(ops)
-}
-
-/// What is taken of the operations of an actor with that last clock.
-pub fn choose<T: Tree>(
-    alloc: Global,
-    state: &Snapshot<T>,
-    actor: u32,
-    last: u64,
-    ops: &Ops,
-) -> Result<Choice, NoMemory>
-    requires last { last ≡ last_of (map kept state.now.sessions) actor }
-    requires bound { last + 1 ≤ 9007199254740992 }
-    ensures { IfOk result (λ c. chosen actor c
-        ≡ take (state_of state.now.count state.now.sessions (T.nodes state.now.tree)) actor ops.now) }
-{
-    let rest = rest_of(alloc, last, ops.as_slice())?;
-    if rest.len() == 0 {
-        return Ok(Choice::Nothing);
-    }
-    if let Some((expected, got)) = gap_of(last, rest.as_slice()) {
-        return Ok(Choice::Gap(expected, got));
-    }
-    let tree = copy_of(alloc, &state.tree)?;
-    let bodies = settled_all(alloc, tree, rest.as_slice())?;
-    Ok(Choice::Takes(last + 1, bodies))
 }

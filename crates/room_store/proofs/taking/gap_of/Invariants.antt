@@ -1,6 +1,7 @@
 use Rattle.std.proofs.Common.{◌≡◌, ◌+◌, drop}
-use Rattle.room_log.specs.Taking.{gap_in}
+use Rattle.room_log.specs.Taking.{gap_in, rest_beyond}
 use Rattle.room_store.proofs.taking.gap_of.Given as goal
 
 abbrev pub invariant-loop-op : goal.invariant-loop-op
-invariant-loop-op l = gap_in l.expected (drop l.op-index l.ops) ≡ gap_in (l.last + 1) l.ops
+invariant-loop-op l =
+    gap_in l.expected (rest_beyond l.last (drop l.op-index l.ops)) ≡ gap_in (l.last + 1) (rest_beyond l.last l.ops)

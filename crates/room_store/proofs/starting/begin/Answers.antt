@@ -1,5 +1,5 @@
 use Rattle.room_store.proofs.Finding.{ok_is}
-use Rattle.room_store.proofs.store.begin.Goals as goal
+use Rattle.room_store.proofs.starting.begin.Goals as goal
 
 pub returns-in-Ok-clause-settled : goal.returns-in-Ok-clause-settled
 returns-in-Ok-clause-settled g c told kept = ok_is c.make_file.result _ _ (c.make_file.ensures.compacts told kept).settled c.in-Ok.is

@@ -2,7 +2,7 @@ use Rattle.std.proofs.Common.{◌+◌}
 use Rattle.room_snapshot.specs.Bounds.{state_of}
 use Rattle.room_replay.specs.Files.{StandsFor, files}
 use Rattle.room_store.proofs.Finding.{ok_is, still_old, old_then, stands_same, since_of, goes_on}
-use Rattle.room_store.proofs.store.Store.recover.Goals as goal
+use Rattle.room_store.proofs.starting.start.Goals as goal
 
 pub returns-in-Ok-clause-any_moment : goal.returns-in-Ok-clause-any_moment
 returns-in-Ok-clause-any_moment g c told s is =

@@ -10,7 +10,7 @@ use Rattle.room_store.specs.declared.fault.StoreFault.{StoreFault}
 use Rattle.room_store.specs.Consistent.{Settled, IsKept, AsHeld}
 use Rattle.room_store.specs.Faults.{IsFault}
 use Rattle.room_store.proofs.Finding.{found_new, found_at, kept_new, held_found, held_files, empty_is, opened_same, one_state, all_stand, moved, whole_as, nothing_done, image_stands, as_fault}
-use Rattle.room_store.proofs.store.resume.Goals as goal
+use Rattle.room_store.proofs.starting.resume.Goals as goal
 
 pub returns-in_default-clause-state : goal.returns-in_default-clause-state
 returns-in_default-clause-state g c told =

@@ -2,7 +2,7 @@ use Rattle.std.proofs.Common.{subst, sym, List, ℕ}
 use Rattle.room_snapshot.specs.Bounds.{state_of}
 use Rattle.room_store.specs.Consistent.{IsReadyState}
 use Rattle.room_store.proofs.Adding.{untouched, made_told}
-use Rattle.room_store.proofs.store.make_file.Goals as goal
+use Rattle.room_store.proofs.starting.make_file.Goals as goal
 
 pub returns-in_err-ready-clause-compacts : goal.returns-in_err-ready-clause-compacts
 returns-in_err-ready-clause-compacts g c told kept =
