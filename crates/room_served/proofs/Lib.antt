@@ -1,0 +1,4 @@
+pub mod Fronts
+pub mod Says
+pub mod Logged
+pub mod Standing
