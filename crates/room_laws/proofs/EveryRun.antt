@@ -6,7 +6,7 @@ use Rattle.room_laws.specs.Alone.{AlwaysAlone}
 use Rattle.room_laws.specs.Always.{AlwaysOnce, AlwaysServed, AlwaysShows, AlwaysTaken, AlwaysUndo, AlwaysUndone}
 use Rattle.room_laws.specs.Growth.{LogGrows}
 use Rattle.room_laws.specs.Moments.{AtEveryMoment}
-use Rattle.room_laws.specs.Validity.{ReadableRun, SoundAccounts, ValidRun}
+use Rattle.room_laws.specs.Validity.{ReadableRun, SoundAccounts, SoundWorlds, ValidRun}
 use Rattle.room_laws.proofs.AloneRuns.{always_alone}
 use Rattle.room_laws.proofs.Always.{always_once, always_served, always_shows, always_taken}
 use Rattle.room_laws.proofs.EmptyPresence.{empty_fits}
@@ -25,6 +25,9 @@ every_log = valid.valid_run every_account items_of_valid
 
 pub every_sound : SoundAccounts
 every_sound = valid.sound_accounts every_account items_of_valid
+
+pub every_world : SoundWorlds
+every_world = valid.sound_worlds every_account items_of_valid
 
 pub every_growth : LogGrows
 every_growth = log_grows every_account items_of_valid

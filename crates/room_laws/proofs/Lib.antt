@@ -1,4 +1,4 @@
-mod Acting
+pub mod Acting
 mod Acts
 mod Advance
 pub mod Alone
@@ -52,7 +52,7 @@ mod Owns
 mod Patches
 mod Popped
 mod Queues
-mod ReadSound
+pub mod ReadSound
 mod Refusals
 mod Reports
 mod Resumes
@@ -80,12 +80,13 @@ mod SoundAccounts
 pub mod SoundCalls
 mod SoundReceives
 mod SoundLines
-mod SoundMaps
+pub mod SoundMaps
 mod SoundSends
-mod SoundServes
+pub mod SoundServes
+mod SoundUsers
 mod Spared
 mod Speaks
-mod StateItems
+pub mod StateItems
 mod Stops
 mod Strange
 mod Strangers

@@ -11,8 +11,8 @@ use Rattle.room_laws.specs.Validity.{IsSoundInbound, IsValidClientMsg, AreValidC
 
 message : (m : ClientMsg) → IsSoundClientMsg m → IsShallowClientMsg m → IsValidClientMsg m
 message (client.Hello h) s d = s.content
-message (client.Presence target patch) s d = s.content
-message (client.Broadcast e) s d = s.content
+message (client.Presence target patch) s d = (s.content, s.sendable, d)
+message (client.Broadcast e) s d = (s.content, d)
 message client.Fetch s d = s.content
 message (client.Update os) s d = (s.content, d)
 

@@ -261,7 +261,7 @@ module _ (n : ℕ) (s : State) where
     takes_next k m (Ok out) i e =
         let after = keep.receive p.account m out hp i e in
         saying _ _ (send (World.with_slot w c (record { account = out.account; present = p.present; noticed = out.notices })) k (map World.inbound_frame out.replies)
-        (put out.account p.present out.notices after) (replies_sound p.account hp out after m e))
+        (put out.account p.present out.notices after) (replies_sound p.account hp out after m i e))
 
     takes : (k : ℕ) (m : Outbound) → IsSoundOutbound m → Stands n s (World.client_takes w number c k p m)
     takes k Pong i = saying _ _ (send (World.with_slot w c (record { account = p.account; present = p.present; noticed = [] })) k [] (put p.account p.present [] hp) tt)

@@ -1,11 +1,11 @@
 -- What a client with a sound account sends is sound.
-use Rattle.std.proofs.Common.{◌≡◌, ◌≤◌, ◌+◌, ℕ, Bool, true, false, cond, ◌&&◌, not, List, [], ◌∷◌, ◌++◌, map, length, sym, ap, subst, arith, nat_cmp, Less}
+use Rattle.std.proofs.Common.{◌≡◌, ◌≤◌, ◌+◌, ℕ, Bool, true, false, cond, ◌&&◌, not, List, [], ◌∷◌, ◌++◌, map, length, max, refl, sym, ap, subst, arith, rules, nat_cmp, Less, ℤ, pos, negsuc}
 use Rattle.std.specs.Prelude.{Option, Some, None, Result, Ok, Err, ⊤}
 use Rattle.std.specs.List.{AllByRecursion}
 use Rattle.std.specs.Cmp.Lexicographic.{slice_cmp}
 use Rattle.std.specs.List.Sorted.{IsStrictlySortedBy}
 use Rattle.std.specs.Map.{keys_of}
-use Rattle.room_json.specs.Value.{Value, fields_of}
+use Rattle.room_json.specs.Value.{Value, fields_of, members, depth, fields_depth}
 use Rattle.room_json.specs.Profile.{HaveJson, AreSoundMembers}
 use Rattle.room_json.specs.declared.tree.Json.{Json}
 use Rattle.room_nodes.specs.declared.nodes.Body.{Body}
@@ -13,6 +13,7 @@ use Rattle.room_nodes.specs.declared.nodes.Op.{Op}
 use Rattle.room_nodes.specs.Shallow.{AreShallow, AreShallowOps}
 use Rattle.room_nodes.specs.Shape.{Nodes}
 use Rattle.room_nodes.specs.Sound.{AreSoundBodies, AreSoundOps}
+use Rattle.room_msg.specs.Laws.{IsTarget}
 use Rattle.room_msg.specs.declared.messages.Resume.{Resume}
 use Rattle.room_msg.specs.declared.messages.ClientMsg.{ClientMsg}
 use Rattle.room_msg.specs.declared.messages.ServerMsg.{ServerMsg}
@@ -27,6 +28,8 @@ use Rattle.room_model.specs.Receive.{Received, FrameFault}
 use Rattle.room_model.specs.Presence.{unsent_members, is_among}
 use Rattle.room_model.specs.Sound.{IsSound, IsSession, RunsOn, AreValidBatches, AreValidEvents}
 use Rattle.room_model.specs.World.{inbound_frame}
+use Rattle.room_model.specs.Edits.{fields_most}
+use Rattle.room_laws.specs.Accounts.{IsValidServerMsg}
 use Rattle.room_laws.specs.Validity.{AreSoundInbounds, IsSoundInbound}
 
 abbrev pub AreSoundFrames : List (List ClientMsg) → Type 0
@@ -117,13 +120,29 @@ json_kept unsent held (f ∷ fs) h = by_test (is_among f.0 unsent && not (is_amo
 unsent_sound : (unsent held : List (List ℕ)) (fs : List (List ℕ × Value)) → AreSoundMembers fs → AreSoundMembers (unsent_members unsent held fs)
 unsent_sound unsent held fs h = record { ordered = ordered_kept unsent held fs h.ordered; json = json_kept unsent held fs h.json }
 
-patches_sound : (fs : List (List ℕ × Value)) → AreSoundMembers fs → AreSoundFrames (calls.patch_frames fs)
-patches_sound [] h = tt
-patches_sound (f ∷ fs) h = ((h, tt), tt)
+-- a presence is no deeper than its members
+presence_depth : (n : ℕ) (fs : List (List ℕ × Value)) → fields_most fs ≤ n → depth (members (fields_of fs)) ≤ n + 1
+presence_depth n fs h = omega (arith, same_most fs, h)
+  where
+    same_most : (gs : List (List ℕ × Value)) → fields_depth (fields_of gs) ≡ fields_most gs
+    same_most [] = refl
+    same_most (g ∷ gs) = ap (max (depth g.1)) (same_most gs)
+
+unsent_most : (n : ℕ) (unsent held : List (List ℕ)) (fs : List (List ℕ × Value)) → fields_most fs ≤ n → fields_most (unsent_members unsent held fs) ≤ n
+unsent_most n unsent held [] h = h
+unsent_most n unsent held (f ∷ fs) h = by_test (is_among f.0 unsent && not (is_among f.0 held)) (unsent_most n unsent held fs (omega (arith, h)))
+  where
+    by_test : (b : Bool) → fields_most (unsent_members unsent held fs) ≤ n → fields_most (cond b (f ∷ unsent_members unsent held fs) (unsent_members unsent held fs)) ≤ n
+    by_test true k = omega (arith, h, k)
+    by_test false k = k
+
+patches_sound : (fs : List (List ℕ × Value)) → AreSoundMembers fs → fields_most fs ≤ 50 → AreSoundFrames (calls.patch_frames fs)
+patches_sound [] h d = tt
+patches_sound (f ∷ fs) h d = (((h, tt, omega (arith, presence_depth 50 (f ∷ fs) d)), tt), tt)
 
 events_sound : (es : List Json) → AreValidEvents es → AreSoundFrames (map Account.frame_of_event es)
 events_sound [] h = tt
-events_sound (e ∷ es) h = ((h.0.json, tt), events_sound es h.1)
+events_sound (e ∷ es) h = (((h.0.json, omega (arith, h.0.shallow)), tt), events_sound es h.1)
 
 -- what it sends: a hello, a flush, and all once more
 
@@ -145,7 +164,7 @@ flush_sound x h =
     let batches = map (Account.frame_of (Account.actor x)) x.fresh in
     unless (Account.is_on x.stage) (patch ++ events ++ cond (Account.is_synced x.stage) batches [])
     (frames-append (patch ++ events) (cond (Account.is_synced x.stage) batches [])
-    (frames-append patch events (patches_sound (unsent_members x.unsent (calls.held x) x.me) (unsent_sound x.unsent (calls.held x) x.me h.presence.own.sound)) (events_sound x.events h.events))
+    (frames-append patch events (patches_sound (unsent_members x.unsent (calls.held x) x.me) (unsent_sound x.unsent (calls.held x) x.me h.presence.own.sound) (unsent_most 50 x.unsent (calls.held x) x.me h.presence.own.shallow)) (events_sound x.events h.events))
     (or_none (Account.is_synced x.stage) batches (fit_frames (Account.actor x) x.fresh (fit_back (Account.actor x) x.sent x.fresh (account_fit x h)))))
 
 pub resend_sound : (x : Account) → IsSound x → AreSoundFrames (calls.resend_frames x)
@@ -170,9 +189,19 @@ once_sound true fault x y h e = said x y h e
 once_sound false fault x y h e = absurd (err_ok fault y e)
 
 module _ (x : Account) (h : IsSound x) (out : Received) (after : IsSound out.account) where
+  -- the whole presence, to one actor or to all
+  full : (target : Option ℤ) → IsTarget target → AreSoundMembers x.me × IsTarget target × (depth (members (fields_of x.me)) ≤ 58)
+  full target t = (h.presence.own.sound, t, omega (arith, presence_depth 50 x.me h.presence.own.shallow))
+
+  to_all : IsTarget (Some (negsuc 0))
+  to_all = (search rules, search rules)
+
+  to_actor : (a : ℕ) → a ≤ most_actor → IsTarget (Some (pos a))
+  to_actor a low = (search rules, search (rules, low))
+
   welcomed_sound : (a key : ℕ) (o : Option Resume) → Receive.welcomed_as x a key o ≡ Ok out → Replies out
-  welcomed_sound a key None e = said (Receive.welcomed x a key) out ((h.presence.own.sound, tt), ((tt, tt), tt)) e
-  welcomed_sound a key (Some s) e = once_sound _ (Receive.AccountFault s.actor a) (Receive.welcomed x a key) out ((h.presence.own.sound, tt), ((tt, tt), tt)) e
+  welcomed_sound a key None e = said (Receive.welcomed x a key) out ((full (Some (negsuc 0)) to_all, tt), ((tt, tt), tt)) e
+  welcomed_sound a key (Some s) e = once_sound _ (Receive.AccountFault s.actor a) (Receive.welcomed x a key) out ((full (Some (negsuc 0)) to_all, tt), ((tt, tt), tt)) e
 
   room_sound : (a key : ℕ) (g : Stage) → Receive.receive_room x a key g ≡ Ok out → Replies out
   room_sound a key Account.Dialled e = welcomed_sound a key x.session e
@@ -226,11 +255,11 @@ module _ (x : Account) (h : IsSound x) (out : Received) (after : IsSound out.acc
   update_sound seq os Account.Dialled e = absurd (err_ok _ out e)
   update_sound seq os Account.Connected e = absurd (err_ok _ out e)
 
-  pub replies_sound : (m : ServerMsg) → Receive.receive x m ≡ Ok out → AreSoundFrames out.replies
-  replies_sound (server.Presence a target patch) e = once_sound _ _ (Receive.received (Receive.presence_taken x a target patch)) out tt e
-  replies_sound (server.Joined a) e = once_sound _ _ (Receive.replying (Receive.forgets x a) (Account.frame_of_full_to a x.me ∷ [])) out ((h.presence.own.sound, tt), tt) e
-  replies_sound (server.Left a) e = once_sound _ _ (Receive.received (Receive.forgets x a)) out tt e
-  replies_sound (server.Broadcast a f) e = once_sound _ _ (record (Receive.received x) { events = (a, f) ∷ [] }) out tt e
-  replies_sound (server.RoomState a key users) e = room_sound a key x.stage e
-  replies_sound (server.State seq last items more) e = state_sound seq last items more (Account.is_on x.stage) e
-  replies_sound (server.Update seq os) e = update_sound seq os x.stage e
+  pub replies_sound : (m : ServerMsg) → IsValidServerMsg m → Receive.receive x m ≡ Ok out → AreSoundFrames out.replies
+  replies_sound (server.Presence a target patch) i e = once_sound _ _ (Receive.received (Receive.presence_taken x a target patch)) out tt e
+  replies_sound (server.Joined a) i e = once_sound _ _ (Receive.replying (Receive.forgets x a) (Account.frame_of_full_to a x.me ∷ [])) out ((full (Some (pos a)) (to_actor a i), tt), tt) e
+  replies_sound (server.Left a) i e = once_sound _ _ (Receive.received (Receive.forgets x a)) out tt e
+  replies_sound (server.Broadcast a f) i e = once_sound _ _ (record (Receive.received x) { events = (a, f) ∷ [] }) out tt e
+  replies_sound (server.RoomState a key users) i e = room_sound a key x.stage e
+  replies_sound (server.State seq last items more) i e = state_sound seq last items more (Account.is_on x.stage) e
+  replies_sound (server.Update seq os) i e = update_sound seq os x.stage e

@@ -40,6 +40,7 @@ use Rattle.room_model.specs.World.{entries_in}
 use Rattle.room_laws.specs.Validity.{AreValidClientMsgs, IsActorOf, IsValidClientMsg, IsSoundOutbound, IsSoundLink, IsSoundServer, IsSoundInbound, ItemsOfValid}
 use Rattle.room_laws.proofs.SoundMaps.{Each, each_put, each_out, each_without}
 use Rattle.room_laws.proofs.SoundSends.{ops_fit}
+use Rattle.room_laws.proofs.SoundUsers.{users_sound}
 use Rattle.room_laws.proofs.Acting.{act_from, taken_from, taken_is}
 
 keeps : ValidAfter
@@ -253,13 +254,17 @@ module _ (v : Server.Server) (h : IsSoundServer v) where
       let more : length (after v.state entry).sessions ≡ length v.state.sessions + 1 = length-append v.state.sessions _ in
       let old : Each (IsSoundLink (length (after v.state entry).sessions)) v.links = λ j m e. weaker (length v.state.sessions) (length (after v.state entry).sessions) m (omega (arith, more)) (h.links j m e) in
       let low : a ≤ most_actor = omega (arith, room) in
+      let state = keeps.entry v.state entry h.state next in
+      let many = length (after v.state entry).sessions in
+      let with_it : Each (IsSoundLink many) (insert v.links k (Server.with_session l a d)) = each_put (IsSoundLink many) v.links old k (Server.with_session l a d) (record { key = i.key; actor = (omega arith, omega (arith, more)) }) in
+      let users = users_sound (after v.state entry).sessions state.sessions many state.actors (remove (insert v.links k (Server.with_session l a d)) k) (each_out (IsSoundLink many) (insert v.links k (Server.with_session l a d)) with_it k) in
       record {
         server = record {
-          state = keeps.entry v.state entry h.state next;
+          state = state;
           limits = h.limits;
-          links = each_put (IsSoundLink (length (after v.state entry).sessions)) v.links old k (Server.with_session l a d) (record { key = i.key; actor = (omega arith, omega (arith, more)) });
+          links = with_it;
         };
-        outs = ((omega arith, low, i.key), to_others_sound _ k (server.Joined a) low);
+        outs = ((omega arith, low, i.key, users.0, users.1, users.2), to_others_sound _ k (server.Joined a) low);
         log = (next, tt);
         state = refl;
       }
@@ -270,10 +275,12 @@ module _ (v : Server.Server) (h : IsSoundServer v) where
       let low : r.actor ≤ most_actor = omega (arith, at, h.state.actors) in
       let key : IsKey r.key = subst IsKey same (session_valid v.state.sessions r.actor x h.state.sessions known).key in
       let ls = Server.without_actor v.links r.actor in
+      let with_it : Each IsLink (insert ls k (Server.with_session l r.actor d)) = each_put IsLink ls (each_without IsLink v.links h.links r.actor) k (Server.with_session l r.actor d) (record { key = i.key; actor = at }) in
+      let users = users_sound v.state.sessions h.state.sessions (length v.state.sessions) h.state.actors (remove (insert ls k (Server.with_session l r.actor d)) k) (each_out IsLink (insert ls k (Server.with_session l r.actor d)) with_it k) in
       record {
-        server = linked (insert ls k (Server.with_session l r.actor d)) (each_put IsLink ls (each_without IsLink v.links h.links r.actor) k (Server.with_session l r.actor d) (record { key = i.key; actor = at }));
+        server = linked (insert ls k (Server.with_session l r.actor d)) with_it;
         outs = outs-append (Server.to_each (Server.holds r.actor) Server.elsewhere (entries v.links)) _ (to_each_sound (Server.holds r.actor) Server.elsewhere (entries v.links) tt)
-            ((at.0, low, key), to_others_sound _ k (server.Joined r.actor) low);
+            ((at.0, low, key, users.0, users.1, users.2), to_others_sound _ k (server.Joined r.actor) low);
         none = refl;
         state = refl;
       }
@@ -378,15 +385,15 @@ module _ (items : ItemsOfValid) (k a : ℕ) (low : a ≤ most_actor) where
       state_at None = refl
       state_at (Some l) = refl
 
-  presence_sound : (v : Server.Server) (target : Option ℤ) (patch : List (List ℕ × Value)) → AreSoundMembers patch → AreSoundOuts (Server.presence_sends v k a target patch)
-  presence_sound v None patch m = to_others_sound v.links k (server.Presence a None patch) (low, m)
-  presence_sound v (Some (negsuc n)) patch m = to_others_sound v.links k (server.Presence a (Some (negsuc n)) patch) (low, m)
-  presence_sound v (Some (pos b)) patch m = to_each_sound (Server.holds b) (Message (server.Presence a (Some (pos b)) patch)) (entries v.links) (low, m)
+  presence_sound : (v : Server.Server) (target : Option ℤ) (patch : List (List ℕ × Value)) → IsValidClientMsg (client.Presence target patch) → AreSoundOuts (Server.presence_sends v k a target patch)
+  presence_sound v None patch m = to_others_sound v.links k (server.Presence a None patch) (low, m.0, m.1, omega (arith, m.2))
+  presence_sound v (Some (negsuc n)) patch m = to_others_sound v.links k (server.Presence a (Some (negsuc n)) patch) (low, m.0, m.1, omega (arith, m.2))
+  presence_sound v (Some (pos b)) patch m = to_each_sound (Server.holds b) (Message (server.Presence a (Some (pos b)) patch)) (entries v.links) (low, m.0, m.1, omega (arith, m.2))
 
   acts_calm : (v : Server.Server) (m : ClientMsg) → IsSoundServer v → IsValidClientMsg m → Calm v (Server.acts v k a None m)
   acts_calm v (client.Hello hello) h i = quiet v h [] tt
   acts_calm v (client.Presence target patch) h i = quiet v h _ (presence_sound v target patch i)
-  acts_calm v (client.Broadcast e) h i = quiet v h _ (to_others_sound v.links k (server.Broadcast a e) (low, i))
+  acts_calm v (client.Broadcast e) h i = quiet v h _ (to_others_sound v.links k (server.Broadcast a e) (low, i.0, omega (arith, i.1)))
   acts_calm v client.Fetch h i = fetch_calm v h
   acts_calm v (client.Update os) h i = quiet v h [] tt
 

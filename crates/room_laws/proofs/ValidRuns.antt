@@ -20,7 +20,7 @@ use Rattle.room_model.specs.Run.{Run, line, run, opened}
 use Rattle.room_laws.specs.Accounts.{KeepsSound}
 use Rattle.room_laws.specs.Invariant.{conn_in}
 use Rattle.room_laws.specs.Laws.{ReadsBack}
-use Rattle.room_laws.specs.Validity.{AreLines, AreSpelled, IsSoundConn, IsSoundWorld, ItemsOfValid, ReadableRun, SoundAccounts, ValidRun}
+use Rattle.room_laws.specs.Validity.{AreLines, AreSpelled, IsSoundConn, IsSoundWorld, ItemsOfValid, ReadableRun, SoundAccounts, ValidRun, SoundWorlds}
 use Rattle.room_laws.proofs.Maps.{get_none}
 use Rattle.room_laws.proofs.SoundLines.{Stands, step_stands, state_after-append, valid-append}
 
@@ -76,6 +76,11 @@ module _ (keep : KeepsSound) (items : ItemsOfValid) where
 
   pub good : (s : State) (ls : List (ℕ × lines.Line)) → IsValidState s → AreLines ls → Good (0 + length ls) s (run (opened s) ls)
   good s ls h l = lines_good 0 s ls (opened s) l.spelled (omega (arith, l.fewer)) (begins s h)
+
+  pub sound_worlds : SoundWorlds
+  sound_worlds s ls h l =
+      let same : 0 + length ls ≡ length ls = omega arith in
+      subst (λ m. IsSoundWorld m (run (opened s) ls).world) same (good s ls h l).world
 
   pub valid_run : ValidRun
   valid_run s ls h l = (good s ls h l).log

@@ -1,6 +1,6 @@
 -- Every account is sound, whatever is done with it.
 use Rattle.std.specs.Prelude.{◌≡◌, ◌≤◌, ℕ, Bool, List, [], Some, Ok, IsUtf8}
-use Rattle.room_json.specs.Value.{Value}
+use Rattle.room_json.specs.Value.{Value, depth, fields_of, members}
 use Rattle.room_json.specs.View.{json_of}
 use Rattle.room_json.specs.Profile.{IsJson, AreSoundMembers}
 use Rattle.room_json.specs.declared.tree.Json.{Json}
@@ -8,6 +8,9 @@ use Rattle.room_nodes.specs.Shallow.{AreShallowOps}
 use Rattle.room_nodes.specs.Shape.{Nodes}
 use Rattle.room_nodes.specs.Sound.{AreSoundOps}
 use Rattle.room_items.specs.Items.{tree_in}
+use Rattle.room_msg.specs.Laws.{IsTarget, AreActors}
+use Rattle.room_msg.specs.Sound.{AreNames}
+use Rattle.room_msg.specs.Users.{IsRising}
 use Rattle.room_msg.specs.declared.messages.ServerMsg.{ServerMsg}
 use Rattle.room_msg.specs.declared.messages.ServerMsg.TheVariants as server
 use Rattle.room_log.specs.Follows.{IsKey, most, most_actor}
@@ -19,13 +22,15 @@ use Rattle.room_model.specs.Calls.{resent, presence_size}
 use Rattle.room_model.specs.Receive.{Received, receive}
 use Rattle.room_model.specs.Sound.{IsSound, IsSoundEdit, AreItems, IsValidTree}
 
--- a message of a server: its numbers are in range, and its values are as deep as a text can have them
+-- a message of a server: its numbers are in range, its users rise, and its values are as deep as a text can have them
 abbrev pub IsValidServerMsg : ServerMsg → Type 0
-IsValidServerMsg (server.Presence a target patch) = (a ≤ most_actor) × AreSoundMembers patch
+IsValidServerMsg (server.Presence a target patch) =
+    (a ≤ most_actor) × AreSoundMembers patch × IsTarget target × (depth (members (fields_of patch)) ≤ 59)
 IsValidServerMsg (server.Joined a) = a ≤ most_actor
 IsValidServerMsg (server.Left a) = a ≤ most_actor
-IsValidServerMsg (server.Broadcast a e) = (a ≤ most_actor) × IsJson (json_of e)
-IsValidServerMsg (server.RoomState a key users) = (1 ≤ a) × (a ≤ most_actor) × IsKey key
+IsValidServerMsg (server.Broadcast a e) = (a ≤ most_actor) × IsJson (json_of e) × (depth (json_of e) ≤ 59)
+IsValidServerMsg (server.RoomState a key users) =
+    (1 ≤ a) × (a ≤ most_actor) × IsKey key × IsRising users × AreActors users × AreNames users
 IsValidServerMsg (server.State seq last items more) = (seq ≤ most) × (last ≤ most) × AreItems items
 IsValidServerMsg (server.Update seq os) = (seq ≤ most) × AreSoundOps os × AreShallowOps os
 

@@ -1,12 +1,14 @@
 -- Over all lines that a schedule can spell, the log of the run is valid.
 use Rattle.std.specs.Prelude.{◌≡◌, ℕ, ◌≤◌, List, [], ◌∷◌, length, Option, Some, None, Ok, Err, IsUtf8, ⊤}
 use Rattle.std.specs.FinMap.{get}
+use Rattle.room_json.specs.Value.{depth, fields_of, members}
 use Rattle.room_json.specs.View.{json_of}
 use Rattle.room_json.specs.Profile.{IsJson, AreSoundMembers}
 use Rattle.room_nodes.specs.Shallow.{AreShallowOps}
 use Rattle.room_nodes.specs.Shape.{Nodes}
 use Rattle.room_nodes.specs.Sound.{AreSoundOps}
 use Rattle.room_items.specs.Items.{items_of}
+use Rattle.room_msg.specs.Laws.{IsTarget}
 use Rattle.room_msg.specs.Sound.{IsTextIfThere}
 use Rattle.room_msg.specs.declared.messages.ClientMsg.{ClientMsg}
 use Rattle.room_msg.specs.declared.messages.ClientMsg.TheVariants as client
@@ -37,8 +39,9 @@ pub record AreLines (ls : List (ℕ × Line)) : Type 0 where
 
 abbrev pub IsValidClientMsg : ClientMsg → Type 0
 IsValidClientMsg (client.Hello h) = IsUtf8 h.room × IsTextIfThere h.name × IsTextIfThere h.«pass»
-IsValidClientMsg (client.Presence target patch) = AreSoundMembers patch
-IsValidClientMsg (client.Broadcast e) = IsJson (json_of e)
+IsValidClientMsg (client.Presence target patch) =
+    AreSoundMembers patch × IsTarget target × (depth (members (fields_of patch)) ≤ 58)
+IsValidClientMsg (client.Broadcast e) = IsJson (json_of e) × (depth (json_of e) ≤ 58)
 IsValidClientMsg client.Fetch = ⊤
 IsValidClientMsg (client.Update os) = AreSoundOps os × AreShallowOps os
 
@@ -112,6 +115,11 @@ ValidRun = (s : State) (ls : List (ℕ × Line)) → IsValidState s → AreLines
 
 abbrev pub ReadableRun : Type 0
 ReadableRun = (s : State) (ls : List (ℕ × Line)) → IsValidState s → AreLines ls → IsReadable s ls
+
+-- what is there after a run is sound: the server, its limits, and what waits on each connection
+abbrev pub SoundWorlds : Type 0
+SoundWorlds = (s : State) (ls : List (ℕ × Line)) → IsValidState s → AreLines ls
+    → IsSoundWorld (length ls) (run (opened s) ls).world
 
 -- and each client's account is sound
 abbrev pub SoundAccounts : Type 0

@@ -7,7 +7,7 @@ ghost use Rattle.room_laws.specs.Moments.{AtEveryMoment};
 ghost use Rattle.room_laws.specs.Moves.{RunsSingly};
 ghost use Rattle.room_laws.specs.Reports.{ReportInOrder};
 ghost use Rattle.room_laws.specs.Undo.{EachReversed};
-ghost use Rattle.room_laws.specs.Validity.{SoundAccounts, ValidRun};
+ghost use Rattle.room_laws.specs.Validity.{SoundAccounts, SoundWorlds, ValidRun};
 
 /// The report of lines after others is theirs, from the world that those left.
 pub fn report_in_order()
@@ -23,6 +23,11 @@ pub fn valid_run()
 /// its log leads: what a recovery finds is the state after a first part of every later log.
 pub fn log_grows()
     ensures { LogGrows }
+{}
+
+/// What is there after a run is sound: the server, its limits, and what waits on each connection.
+pub fn sound_worlds()
+    ensures { SoundWorlds }
 {}
 
 /// The account of every client is sound.

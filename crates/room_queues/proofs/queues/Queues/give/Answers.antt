@@ -1,0 +1,7 @@
+use Rattle.std.proofs.Common.{rules}
+use Rattle.std.proofs.lemmas.Result.{on_ok_weaker}
+use Rattle.room_queues.proofs.Maps.{views}
+use Rattle.room_queues.proofs.queues.Queues.give.Goals as goal
+
+pub returns : goal.returns
+returns c = on_ok_weaker c.give.result (λ e. search (rules, views, e)) c.give.ensures

@@ -1,0 +1,2 @@
+pub mod Words
+pub use Rattle.room_model.specs.Lines

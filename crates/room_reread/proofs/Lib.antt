@@ -1,0 +1,2 @@
+mod Jsons
+pub mod Waiting

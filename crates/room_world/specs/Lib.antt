@@ -1,0 +1,4 @@
+pub mod Fuses
+pub mod Moments
+pub mod Parts
+pub mod Reading
