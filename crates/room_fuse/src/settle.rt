@@ -82,6 +82,10 @@ impl<D: Disk> Stopping for Fused<D> {
         self.how = how;
     }
 
+    fn left(&self) -> u64 {
+        self.armed
+    }
+
     fn fired(&self) -> bool {
         Fused::fired(self)
     }
@@ -145,6 +149,9 @@ impl<D: Disk> Fused<D> {
             ≡ left_through D.seen self.old.inner self.old.held.items (settled_by self.old.fired self.old.how) f) }
         ensures plain { OnOk result (⟦<Fused<D> as Stopping>⟧.plain self.new) }
         ensures still { OnErr result (self.new.fired ≡ self.old.fired) }
+        // A refused call leaves it armed, and no call lowers the count of its faults.
+        ensures count { OnErr result (self.new.armed ≡ self.old.armed) }
+        ensures later { ⟦<Fused<D> as Disk>⟧.faults self.old ≤ ⟦<Fused<D> as Disk>⟧.faults self.new }
         ensures went { ⟦<Fused<D> as Stopping>⟧.went self.old self.new }
         ensures failed { IsErrOf result DiskFault.Failed → Rose (D.faults self.old.inner) (D.faults self.new.inner) }
     {

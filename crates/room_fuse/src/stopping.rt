@@ -48,6 +48,10 @@ pub trait Stopping: Disk {
         ensures inner_faults { Self.inner_faults self.new ≡ Self.inner_faults self.old }
         ensures went { went self.old self.new };
 
+    /// How many counted calls there are to the stop, itself included; 0 where none is armed.
+    fn left(&self) -> u64
+        ensures { result ≡ armed self.now };
+
     /// Whether it has stopped.
     fn fired(&self) -> bool
         ensures { result ≡ Self.stopped self.now };
