@@ -1,0 +1,5 @@
+pub mod Serving
+pub mod Seats
+pub mod Names
+pub mod News
+pub mod Waiting

@@ -1,0 +1,9 @@
+pub mod Groups
+pub mod Ending
+pub mod Taking
+pub mod Standing
+pub mod Breaking
+pub mod Putting
+pub mod Carrying
+pub mod Framing
+pub mod Empty

@@ -1,0 +1,5 @@
+pub mod Codes
+pub mod Faults
+pub mod Hosted
+pub mod Turn
+pub mod Commit
