@@ -2,12 +2,11 @@
 #![tactic(auto)]
 
 mod command;
-mod real;
 #[cfg(test)]
 mod tests;
 
 use command::start;
-use real::{Reading, Writing};
+use room_real::{Reading, Writing};
 use room_tree::PlainTree;
 use std::process::ExitCode;
 use std::{env, io};

@@ -1,6 +1,6 @@
 //! One run through the real call.
 use super::*;
-use room_edge::{MemSink, Sink};
+use room_edge::MemSink;
 use std::io::{Error, ErrorKind};
 use std::test::Fail;
 
@@ -24,15 +24,6 @@ fn ends_with_the_status(rt: HostRuntime) -> Result<(), Fail> {
         let code = start::<PlainTree, _, _>(rt.alloc(), words, &mut source, &mut sink);
         assert_eq!(rt; code, ExitCode::from(status));
         assert_eq!(rt; sink.written().as_slice(), output.as_bytes());
-    }
-    Ok(())
-}
-
-#[test]
-fn writes_an_empty_piece(rt: HostRuntime) -> Result<(), Fail> {
-    let mut sink = Writing::new(Vec::new(rt.alloc()));
-    for piece in [&b""[..], b"ab"] {
-        assert_eq!(rt; sink.write(piece), Ok(piece.len()));
     }
     Ok(())
 }

@@ -1,7 +1,6 @@
 //! Cases of `room_bytes`: entries and groups by their bytes.
-use crate::args::bytes;
-use crate::broken::Broken;
 use room_bytes::{Format, read_entry, read_group, write_entry, write_group};
+use room_case_text::{Broken, bytes};
 use room_json::{Bytes, Copied, NoMemory};
 use std::alloc::Global;
 

@@ -1,5 +1,5 @@
 //! Cases of `room_history`: what calls in a row leave.
-use crate::broken::Broken;
+use room_case_text::Broken;
 use room_history::History;
 use room_json::{Copied, Members, NoMemory, Seq};
 use room_nodes::{Change, Changes};

@@ -1,12 +1,10 @@
 //! Cases of `room_ids`: ids, and positions in lists.
-use crate::args::{cut, item, node, number, text_at, value};
-use crate::broken::Broken;
-use crate::values::shown;
+use room_case_text::{Broken, cut, item, node, number, shown, text_at, tildes, value};
 use room_ids::{
     MAX_ACTOR, NodeId, OpId, Pos, PosFault, Stamp, after, before, between, compare, compare_ops,
     compare_places, first, same_id, same_op,
 };
-use room_json::{Copied, Json, NoMemory, Sound, Text};
+use room_json::{Copied, Json, Sound, Text};
 use std::alloc::Global;
 use std::cmp::Ordering;
 
@@ -154,17 +152,8 @@ fn placed_between(alloc: Global, v: &Json) -> Result<String, Broken> {
     placed(alloc, between(alloc, &x, Some(&y)))
 }
 
-/// So many `~`.
-pub(crate) fn tildes(alloc: Global, count: u64) -> Result<Text, NoMemory> {
-    let mut text = Text::new(alloc);
-    for _ in 0..count {
-        text.push_str("~")?;
-    }
-    Ok(text)
-}
-
 /// Whether so many `~` are a position; and what is wrong with the one after it.
-pub(crate) fn tildes_read(alloc: Global, count: u64) -> Result<String, Broken> {
+fn tildes_read(alloc: Global, count: u64) -> Result<String, Broken> {
     let text = tildes(alloc, count)?;
     let Some(pos) = Pos::read(alloc, &text)? else {
         return Ok(format!(in alloc; "no position")?);

@@ -1,7 +1,6 @@
 //! Cases of `room_msg`: frames of both sides.
-use crate::args::{number, number_at, text_at, value};
-use crate::broken::Broken;
 use crate::values::nested;
+use room_case_text::{Broken, number, number_at, text_at, value};
 use room_json::{Copied, Json, NoMemory, Text};
 use room_msg::{
     ClientFrame, MsgFault, ServerFrame, read_client, read_server, write_client, write_server,

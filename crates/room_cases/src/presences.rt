@@ -1,7 +1,5 @@
 //! Cases of `room_presence`: what calls in a row leave.
-use crate::args::{items, number_at, object_at, text_at, value};
-use crate::broken::Broken;
-use crate::values::shown;
+use room_case_text::{Broken, items, number_at, object_at, shown, text_at, value};
 use room_json::{Copied, Json};
 use room_presence::Presence;
 use std::alloc::Global;

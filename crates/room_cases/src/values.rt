@@ -1,6 +1,7 @@
 //! Cases of `room_json`: values, objects, lists and texts.
-use crate::args::{bytes, item, items, number, number_at, object_at, text_at, value};
-use crate::broken::Broken;
+use room_case_text::{
+    Broken, bytes, item, items, number, number_at, object_at, shown, text_at, value,
+};
 use room_json::{
     Copied, Json, JsonFault, Members, NoMemory, Seq, Text, TextFault, depth, field, merge, put,
     read, write,
@@ -36,12 +37,6 @@ fn of_json(alloc: Global, verb: &str, v: &Json) -> Result<String, Broken> {
         "insert" => inserted(alloc, v),
         _ => Err(Broken::Verb),
     }
-}
-
-/// The compact text of a value, by way of a copy.
-pub(crate) fn shown(alloc: Global, v: &Json) -> Result<String, Broken> {
-    let text = write(alloc, &v.copy(alloc)?)?;
-    Ok(format!(in alloc; "{}", text.as_str())?)
 }
 
 /// What stands at a name, or `-`.

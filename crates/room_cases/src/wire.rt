@@ -1,14 +1,12 @@
 //! Cases of `room_wire` and `room_nodes`: operations as JSON.
-use crate::args::value;
-use crate::broken::Broken;
-use crate::values::shown;
+use room_case_text::{Broken, shown, value};
 use room_json::{Copied, Json, NoMemory, Sound};
 use room_nodes::Op;
 use room_wire::{WireFault, read_op, write_op};
 use std::alloc::Global;
 
 /// A copy of what is sound.
-pub(crate) fn copied<T: Copied + Sound>(alloc: Global, value: &T) -> Result<T, NoMemory> {
+fn copied<T: Copied + Sound>(alloc: Global, value: &T) -> Result<T, NoMemory> {
     value.sound();
     value.copy(alloc)
 }
@@ -18,15 +16,6 @@ pub(crate) fn outcome(alloc: Global, verb: &str, rest: &str) -> Result<String, B
     match verb {
         "read" => again(alloc, rest),
         _ => Err(Broken::Verb),
-    }
-}
-
-/// The operation that a value spells, by way of a copy; or the field that is wrong.
-pub(crate) fn op_of(alloc: Global, v: &Json) -> Result<Op, Broken> {
-    match read_op(alloc, v) {
-        Ok(op) => Ok(copied(alloc, &op)?),
-        Err(WireFault::Memory) => Err(Broken::Memory),
-        Err(WireFault::BadOp(_)) => Err(Broken::Op),
     }
 }
 

@@ -1,0 +1,4 @@
+-- Lemmas.
+pub mod Plain
+pub mod Leaves
+pub mod Spelling
