@@ -130,6 +130,30 @@ ends_beyond c e bs h l m =
     let most : max e (upto c bs) ≤ upto c bs = max-le within (omega arith) in
     omega (arith, ends_upto e (beyond e bs) (runs_beyond c e bs h l), beyond_upto c e bs h l, most, ends_upto c bs h)
 
+-- and it ends as the whole does
+upto_stays : (c e : ℕ) (bs : List Batch) → RunsOn c bs → c ≤ e → e ≤ upto c bs → upto e (beyond e bs) ≡ upto c bs
+upto_stays c e [] h l m = omega (arith, l, m)
+upto_stays c e (b ∷ bs) h l m =
+    ⊎_elim cut (λ n. past n (upto_stays (c + length b.bodies) e bs h.more n m)) (cases_lt e (c + length b.bodies))
+  where
+    past : c + length b.bodies ≤ e → upto e (beyond e bs) ≡ upto c (b ∷ bs)
+        → upto e (beyond e (b ∷ bs)) ≡ upto c (b ∷ bs)
+    past n k = rw (beyond_one c e b bs h n) k
+
+    cut : e < c + length b.bodies → upto e (beyond e (b ∷ bs)) ≡ upto c (b ∷ bs)
+    cut n =
+        let t : nat_lt e (last_clock b) ≡ true = grind (arith, nat_tests) in
+        let k : e + length (drop (e + 1 - b.first) b.bodies) ≡ c + length b.bodies =
+        omega (arith, length-drop (e + 1 - b.first) b.bodies) in
+        let p : upto (e + length (drop (e + 1 - b.first) b.bodies)) (beyond e bs) ≡ upto c (b ∷ bs) =
+        rw (k, beyond_none (c + length b.bodies) e bs h.more (omega arith)) refl in
+        rw t p
+
+pub ends_stay : (c e : ℕ) (bs : List Batch) → RunsOn c bs → c ≤ e → e ≤ ends c bs → ends e (beyond e bs) ≡ ends c bs
+ends_stay c e bs h l m =
+    let within : e ≤ upto c bs = omega (arith, m, ends_upto c bs h) in
+    ends_upto e (beyond e bs) (runs_beyond c e bs h l) ∙ upto_stays c e bs h l within ∙ sym (ends_upto c bs h)
+
 pub ends-append : (c : ℕ) (bs cs : List Batch) → ends c (bs ++ cs) ≡ ends (ends c bs) cs
 ends-append c [] cs = refl
 ends-append c (b ∷ bs) cs = ends-append (last_clock b) bs cs

@@ -10,7 +10,7 @@ pub mod Batches
 mod Calls
 mod Calm
 mod ClientLines
-mod ClocksKept
+pub mod ClocksKept
 mod Receiving
 mod Commits
 mod Cuts
@@ -25,7 +25,7 @@ mod Follows
 mod Frame
 mod Frames
 mod Growth
-mod Happens
+pub mod Happens
 pub mod Histories
 mod HistoryBounds
 mod IssuedSound
@@ -68,20 +68,20 @@ mod SceneMoves
 mod SceneTests
 mod Scenes
 mod SceneUps
-mod Slots
+pub mod Slots
 mod Sends
 mod Sent
 mod Served
 mod Serves
 mod Sessions
 pub mod Settled
-mod Single
+pub mod Single
 mod SoundAccounts
 pub mod SoundCalls
-mod SoundReceives
-mod SoundLines
+pub mod SoundReceives
+pub mod SoundLines
 pub mod SoundMaps
-mod SoundSends
+pub mod SoundSends
 pub mod SoundServes
 mod SoundUsers
 mod Spared

@@ -448,7 +448,8 @@ module _ (keep : KeepsSound) (items : ItemsOfValid) (n : ℕ) where
   at : (s : State) (w : World) → IsSoundWorld n w → s ≡ state_in w.host → Same n s w
   at s w h e = record { world = h; state = sym e }
 
-  conn_line : (w : World) (number k : ℕ) (traffic : lines.Traffic) → IsSoundWorld n w → IsTraffic traffic → Stands n (state_in w.host) (World.conn_line w number k traffic)
+  pub conn_line : (w : World) (number k : ℕ) (traffic : lines.Traffic) → IsSoundWorld n w → IsTraffic traffic
+      → Stands n (state_in w.host) (World.conn_line w number k traffic)
   conn_line w number k lines.Up h i = inbound_at n _ items w k (get w.conns k) refl (at _ w h refl)
   conn_line w number k lines.Down h i = outbound_at n _ keep w number k (get w.conns k) refl (at _ w h refl)
   conn_line w number k lines.Gone h i = quietly n _ _ (gone_on n _ items w k w.host (World.is_attached w k) refl (at _ w h refl))

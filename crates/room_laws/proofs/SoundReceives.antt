@@ -188,7 +188,7 @@ within_by a limit c o os r false true q l k p = k (c + 1) (grind (arith, nat_tes
 within_by a limit c o os r false false q l k p = cc
 
 -- the clock that an update tells was issued
-told_within : (a limit : ℕ) (os : List Op) (r c : ℕ) → c ≤ limit → Receive.told_by a limit c os ≡ Ok r → r ≤ limit
+pub told_within : (a limit : ℕ) (os : List Op) (r c : ℕ) → c ≤ limit → Receive.told_by a limit c os ≡ Ok r → r ≤ limit
 told_within a limit [] r c l p = let e : c ≡ r = cc in omega (arith, l, e)
 told_within a limit (o ∷ os) r c l p =
     within_by a limit c o os r (not (actor_of o == a)) ((clock_of o == c + 1) && nat_le (clock_of o) limit) refl l (λ d m q. told_within a limit os r d m q) p

@@ -30,13 +30,18 @@ use Rattle.room_nodes.specs.Sound.{IsSoundKind, IsSoundBody, IsSomeInRange, AreS
 use Rattle.room_items.proofs.Members.{Pair, EachJson, object_json}
 use Rattle.room_wire.specs.Written.{op_out, body_out, head_out, kind_code, data_out as kind_out, replaced_out}
 use Rattle.room_msg.specs.Keys.{key_text, hex_digit, hex_digits}
-use Rattle.room_msg.specs.Laws.{IsTarget, AreActors}
-use Rattle.room_msg.specs.Sound.{AreNames}
+use Rattle.room_msg.specs.Laws.{IsTarget, AreActors, IsResume}
+use Rattle.room_msg.specs.Sound.{AreNames, IsTextIfThere}
 use Rattle.room_msg.specs.Written.{server_out, type_out, number_out, target_out, data_out, more_out, ops_out, user_out}
-use Rattle.room_msg.specs.Written.{user_value}
+use Rattle.room_msg.specs.Written.{user_value, client_out, resume_out, text_out}
+use Rattle.room_msg.specs.declared.messages.Resume.{Resume}
+use Rattle.room_msg.specs.declared.messages.ClientMsg.{ClientMsg}
+use Rattle.room_msg.specs.declared.messages.ClientMsg.TheVariants as client
 use Rattle.room_msg.specs.declared.messages.ServerMsg.{ServerMsg}
 use Rattle.room_msg.specs.declared.messages.ServerMsg.TheVariants as server
 use Rattle.room_laws.specs.Accounts.{IsValidServerMsg}
+use Rattle.room_laws.specs.Validity.{IsValidClientMsg}
+use Rattle.room_reread.specs.Fits.{IsRanged}
 
 -- texts
 
@@ -228,3 +233,54 @@ server_json (server.Update seq ops) h =
     (each_append (type_out 201) (number ++ ops_out ops) (type_json 201 (omega arith))
     (each_append number (ops_out ops) (IsUtf8-are_ascii (codes "seq") refl, whole_json seq h.0, tt)
     (IsUtf8-are_ascii (codes "ops") refl, ops_json ops h.1, tt)))
+
+-- what clients send
+
+abbrev session_out : Resume → List Pair
+session_out r = number_out (codes "actor") r.actor ++ (codes "key", text (key_text r.key)) ∷ []
+
+resume_json : (o : Option Resume) → IsResume o → EachJson (resume_out o)
+resume_json None h = tt
+resume_json (Some r) h = (
+  IsUtf8-are_ascii (codes "resume") refl,
+  object_json (session_out r)
+      (each_append (number_out (codes "actor") r.actor) ((codes "key", text (key_text r.key)) ∷ [])
+      (actor_json r.actor h.0)
+      (IsUtf8-are_ascii (codes "key") refl, key_utf8 r.key, tt)),
+  tt,
+)
+
+text_json : (k : List ℕ) (o : Option (List ℕ)) → IsUtf8 k → IsTextIfThere o → EachJson (text_out k o)
+text_json k None u h = tt
+text_json k (Some t) u h = (u, h, tt)
+
+abbrev named_out : List ℕ → List Pair
+named_out room = (codes "room", text room) ∷ []
+
+pub client_json : (m : ClientMsg) → IsValidClientMsg m → IsRanged m → IsJson (client_out m)
+client_json (client.Hello h) v r =
+    let name = text_out (codes "name") h.name in
+    let pass = text_out (codes "pass") h.«pass» in
+    let rest = (resume_out h.resume ++ name) ++ pass in
+    object_json (type_out 1 ++ (named_out h.room ++ rest))
+    (each_append (type_out 1) (named_out h.room ++ rest) (type_json 1 (omega arith))
+    (each_append (named_out h.room) rest (IsUtf8-are_ascii (codes "room") refl, v.0, tt)
+    (each_append (resume_out h.resume ++ name) pass
+    (each_append (resume_out h.resume) name (resume_json h.resume r.2)
+    (text_json (codes "name") h.name (IsUtf8-are_ascii (codes "name") refl) v.1))
+    (text_json (codes "pass") h.«pass» (IsUtf8-are_ascii (codes "pass") refl) v.2))))
+client_json (client.Presence target patch) v r =
+    let rest = data_out patch ++ target_out target in
+    object_json (type_out 100 ++ rest)
+    (each_append (type_out 100) rest (type_json 100 (omega arith))
+    (each_append (data_out patch) (target_out target)
+    (IsUtf8-are_ascii (codes "data") refl, members_json patch v.0, tt) (target_json target v.1)))
+client_json (client.Broadcast event) v r =
+    object_json (type_out 103 ++ event_out (json_of event))
+    (each_append (type_out 103) (event_out (json_of event)) (type_json 103 (omega arith))
+    (IsUtf8-are_ascii (codes "event") refl, v.0, tt))
+client_json client.Fetch v r = object_json (type_out 200) (type_json 200 (omega arith))
+client_json (client.Update ops) v r =
+    object_json (type_out 201 ++ ops_out ops)
+    (each_append (type_out 201) (ops_out ops) (type_json 201 (omega arith))
+    (IsUtf8-are_ascii (codes "ops") refl, ops_json ops v.0, tt))

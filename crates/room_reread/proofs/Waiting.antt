@@ -1,11 +1,5 @@
 -- What waits for clients and links is read as it was sent.
-use Rattle.std.proofs.Common.{List, [], ◌∷◌, All, arith}
-use Rattle.std.proofs.lemmas.List.Elements.{All-cons, All-nil}
-use Rattle.room_nodes.specs.declared.nodes.Op.{Op}
-use Rattle.room_nodes.specs.declared.nodes.Body.{Body}
-use Rattle.room_nodes.specs.declared.nodes.Body.TheVariants.{SetKey, Create, Update, Delete, DeleteKey}
-use Rattle.room_nodes.specs.Sound.{IsSoundBody, AreSoundOps}
-use Rattle.room_wire.specs.Laws.{IsBodyInRange, IsOpInRange}
+use Rattle.std.proofs.Common.{List, [], ◌∷◌, arith}
 use Rattle.room_msg.specs.Laws.{IsServed, IsServerInRange}
 use Rattle.room_msg.proofs.Framed.{server_frames}
 use Rattle.room_msg.specs.declared.messages.ServerMsg.{ServerMsg}
@@ -17,18 +11,8 @@ use Rattle.room_laws.specs.Accounts.{IsValidServerMsg}
 use Rattle.room_laws.specs.Validity.{AreSoundOutbounds}
 use Rattle.room_laws.proofs.EveryRun.{every_world}
 use Rattle.room_reread.specs.Laws.{AreOutRead, ValidIsRead, WaitingIsRead}
+use Rattle.room_reread.proofs.Frames.{ops_range}
 use Rattle.room_reread.proofs.Jsons.{server_json}
-
-body_range : (b : Body) → IsSoundBody b → IsBodyInRange b
-body_range (SetKey x k) h = h.0
-body_range (Create x p k o kind) h = (h.0, h.1, h.3)
-body_range (Update x fs) h = h.0
-body_range (Delete x) h = h
-body_range (DeleteKey x k) h = h.0
-
-ops_range : (os : List Op) → AreSoundOps os → All IsOpInRange os
-ops_range [] h = All-nil IsOpInRange
-ops_range (o ∷ os) h = All-cons IsOpInRange o os (h.0.0, body_range o.body h.0.1) (ops_range os h.1)
 
 served : (m : ServerMsg) → IsValidServerMsg m → IsServed m
 served (server.Presence a target patch) h = h.2

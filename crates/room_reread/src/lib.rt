@@ -1,6 +1,6 @@
-//! Texts that wait are read as they were meant. Laws alone.
+//! What the server and its clients send is read as it was meant. Laws alone.
 #![tactic(auto)]
 
 mod laws;
 
-pub use laws::waiting_is_read;
+pub use laws::{all_is_read, frames_fit, waiting_is_read};
