@@ -26,6 +26,8 @@ pub record Appends {D T : Type 0} (seen : D → Reads) (moment : D → ℕ) (ima
   pub any_moment : (s : List ℕ) (bs : List (List ℕ)) → says (seen old p.file) ≡ room p.generation s bs
       → Within moment images old new
       (OnFile p.file (IsBeforeOrAfter p.generation s bs (body_of ready)) (images old (moment old)))
+  -- however it ends
+  pub most : moment new ≤ moment old + 4
 
 -- of a disk that can stop, and has not
 pub record AppendsOrStops {D T : Type 0} (seen : D → Reads) (moment : D → ℕ) (stopped : D → Bool) (leaves : D → Left)

@@ -1,13 +1,15 @@
 //! A file is made anew: its gate is closed, the rest is written, and the gate is opened, each beyond any stop before
 //! the next.
-ghost use Rattle.std.specs.Prelude.{◌≡◌, ◌+◌, ◌∷◌, ◌++◌, ℕ, length, drop, OnOk, IfOk, IsErr, true, false, IsTrue, ◌↔◌};
+ghost use Rattle.std.specs.Prelude.{◌≡◌, ◌+◌, ◌≤◌, ◌∷◌, ◌++◌, ◌↔◌, ℕ, length, drop};
+ghost use Rattle.std.specs.Prelude.{OnOk, IfOk, IsErr, true, false, IsTrue};
 ghost use Rattle.room_disk.specs.Model.{Only, OnFile, Within};
 ghost use Rattle.room_disk.specs.Stops.{Stays};
 ghost use Rattle.room_disk.specs.Causes.{HasCause};
 ghost use Rattle.room_journal.specs.Appends.{IsClean};
 ghost use Rattle.room_journal.specs.Fresh.{IsShutting, IsFreshening};
 
-use room_disk::{Disk, DiskFault, put_down};
+use crate::down::put_down;
+use room_disk::{Disk, DiskFault};
 
 /// Whether the gate is there and closed.
 fn is_shut<D: Disk>(disk: &mut D, file: u32) -> Result<bool, DiskFault>
@@ -31,6 +33,7 @@ fn shut<D: Disk>(disk: &mut D, file: u32) -> Result<(), DiskFault>
     ensures durable { D.tells ≡ true
         → OnOk result (Only (D.seen disk.new file) (D.images disk.new (D.moment disk.new) file)) }
     ensures counted { D.tells ≡ true → OnOk result (D.moment disk.new ≡ D.moment disk.old + 2) }
+    ensures most { D.tells ≡ true → D.moment disk.new ≤ D.moment disk.old + 2 }
     ensures others { D.tells ≡ true → (f : ℕ) → (f ≡ file → ⊥) → D.seen disk.new f ≡ D.seen disk.old f }
     ensures within { D.tells ≡ true → Within D.moment D.images disk.old disk.new
         (OnFile file (IsShutting (D.seen disk.old file) (D.images disk.old (D.moment disk.old) file))
@@ -54,6 +57,7 @@ pub fn sync_one<D: Disk>(disk: &mut D, file: u32) -> Result<(), DiskFault>
     ensures durable { D.tells ≡ true
         → OnOk result (Only (D.seen disk.new file) (D.images disk.new (D.moment disk.new) file)) }
     ensures counted { D.tells ≡ true → OnOk result (D.moment disk.new ≡ D.moment disk.old + 1) }
+    ensures most { D.tells ≡ true → D.moment disk.new ≤ D.moment disk.old + 1 }
     ensures within { D.tells ≡ true → Within D.moment D.images disk.old disk.new
         (D.images disk.old (D.moment disk.old)) }
     ensures stop_fails { D.stopped disk.new ≡ true → IsErr result }
@@ -71,6 +75,7 @@ pub fn sync_twice<D: Disk>(disk: &mut D, file: u32) -> Result<(), DiskFault>
     ensures durable { D.tells ≡ true
         → OnOk result (Only (D.seen disk.new file) (D.images disk.new (D.moment disk.new) file)) }
     ensures counted { D.tells ≡ true → OnOk result (D.moment disk.new ≡ D.moment disk.old + 2) }
+    ensures most { D.tells ≡ true → D.moment disk.new ≤ D.moment disk.old + 2 }
     ensures within { D.tells ≡ true → Within D.moment D.images disk.old disk.new
         (D.images disk.old (D.moment disk.old)) }
     ensures stop_fails { D.stopped disk.new ≡ true → IsErr result }
@@ -90,6 +95,7 @@ pub fn make_anew<D: Disk>(disk: &mut D, file: u32, bytes: &[u8]) -> Result<(), D
     ensures durable { D.tells ≡ true
         → OnOk result (Only (D.seen disk.new file) (D.images disk.new (D.moment disk.new) file)) }
     ensures counted { D.tells ≡ true → OnOk result (D.moment disk.new ≡ D.moment disk.old + 6) }
+    ensures most { D.tells ≡ true → D.moment disk.new ≤ D.moment disk.old + 6 }
     ensures others { D.tells ≡ true → (f : ℕ) → (f ≡ file → ⊥) → D.seen disk.new f ≡ D.seen disk.old f }
     ensures any_moment { D.tells ≡ true → Within D.moment D.images disk.old disk.new
         (OnFile file (IsFreshening (D.seen disk.old file) (D.images disk.old (D.moment disk.old) file) bytes.now)

@@ -10,11 +10,12 @@ ghost use Rattle.room_journal.specs.Appends.{Appends, AppendsOrStops, IsClean};
 ghost use Rattle.room_journal.specs.Found.{IsFound, HasShape};
 ghost use Rattle.room_journal.specs.Causes.{IsFault, HasCauses, HasDiskCause};
 
+use crate::down::put_down;
 use crate::fault::JournalFault;
 use crate::fresh::{make_anew, sync_twice};
 use crate::heading::MARK_TWO;
 use crate::reading::{Found, read_files};
-use room_disk::{Disk, Stop, put_down};
+use room_disk::{Disk, Stop};
 use room_json::{Bytes, NoMemory};
 use std::alloc::Global;
 use std::marker::Model;
@@ -69,6 +70,7 @@ impl Journal {
         ensures second { D.tells ≡ true
             → OnOk result (Only (D.seen disk.old (base + 1)) (D.images disk.new (D.moment disk.new) (base + 1))) }
         ensures counted { D.tells ≡ true → OnOk result (D.moment disk.new ≡ D.moment disk.old + 2) }
+        ensures most { D.tells ≡ true → D.moment disk.new ≤ D.moment disk.old + 2 }
         ensures within { D.tells ≡ true
             → Within D.moment D.images disk.old disk.new (D.images disk.old (D.moment disk.old)) }
         ensures stop_fails { D.stopped disk.new ≡ true → IsErr result }
@@ -166,6 +168,7 @@ impl Journal {
         ensures durable { D.tells ≡ true → (o : ℕ) → o ≡ other_of self.old.base self.old.file
             → OnOk result (Only (D.seen disk.new o) (D.images disk.new (D.moment disk.new) o)) }
         ensures counted { D.tells ≡ true → OnOk result (D.moment disk.new ≡ D.moment disk.old + 6) }
+        ensures most { D.tells ≡ true → D.moment disk.new ≤ D.moment disk.old + 6 }
         ensures others { D.tells ≡ true → (f : ℕ) → (f ≡ other_of self.old.base self.old.file → ⊥)
             → D.seen disk.new f ≡ D.seen disk.old f }
         // At each moment of the call each image of that file says what it said, or is closed, or is the new one.
@@ -220,6 +223,7 @@ fn sync_six<D: Disk>(disk: &mut D, file: u32) -> Result<(), JournalFault>
     ensures durable { D.tells ≡ true
         → OnOk result (Only (D.seen disk.new file) (D.images disk.new (D.moment disk.new) file)) }
     ensures counted { D.tells ≡ true → OnOk result (D.moment disk.new ≡ D.moment disk.old + 6) }
+    ensures most { D.tells ≡ true → D.moment disk.new ≤ D.moment disk.old + 6 }
     ensures within { D.tells ≡ true → Within D.moment D.images disk.old disk.new
         (D.images disk.old (D.moment disk.old)) }
     ensures stop_fails { D.stopped disk.new ≡ true → IsErr result }

@@ -2,6 +2,7 @@
 //! snapshot up to a closed gate.
 #![tactic(auto)]
 
+mod down;
 mod fault;
 mod fresh;
 mod heading;

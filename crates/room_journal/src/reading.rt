@@ -156,6 +156,7 @@ fn sync_both<D: Disk>(disk: &mut D, base: u32) -> Result<(), DiskFault>
     ensures second { D.tells ≡ true
         → OnOk result (Only (D.seen disk.old (base + 1)) (D.images disk.new (D.moment disk.new) (base + 1))) }
     ensures counted { D.tells ≡ true → OnOk result (D.moment disk.new ≡ D.moment disk.old + 2) }
+    ensures most { D.tells ≡ true → D.moment disk.new ≤ D.moment disk.old + 2 }
     ensures within { D.tells ≡ true
         → Within D.moment D.images disk.old disk.new (D.images disk.old (D.moment disk.old)) }
     ensures stop_fails { D.stopped disk.new ≡ true → IsErr result }
@@ -184,6 +185,7 @@ pub fn read_files<D: Disk>(alloc: Global, disk: &mut D, base: u32) -> Result<Fou
     ensures second { D.tells ≡ true
         → OnOk result (Only (D.seen disk.old (base + 1)) (D.images disk.new (D.moment disk.new) (base + 1))) }
     ensures counted { D.tells ≡ true → OnOk result (D.moment disk.new ≡ D.moment disk.old + 2) }
+    ensures most { D.tells ≡ true → D.moment disk.new ≤ D.moment disk.old + 2 }
     ensures within { D.tells ≡ true
         → Within D.moment D.images disk.old disk.new (D.images disk.old (D.moment disk.old)) }
     ensures stop_fails { D.stopped disk.new ≡ true → IsErr result }

@@ -2,18 +2,19 @@
 ghost use Rattle.std.specs.Prelude.{◌≡◌, ◌⊎◌, ◌≤◌, ◌<◌, ◌^◌, ◌+◌, ℕ, map, true, false, [], None, Some, IsSome, is_some};
 ghost use Rattle.std.specs.Prelude.{IfOk, IfErr, OnOk, OnErr, IsErr, IsErrOf};
 ghost use Rattle.std.specs.FinMap.{get};
-ghost use Rattle.room_disk.specs.Model.{WithinWhole};
+ghost use Rattle.room_disk.specs.Model.{Within, WithinWhole};
 ghost use Rattle.room_nodes.specs.Shape.{empty_tree};
 ghost use Rattle.room_log.specs.Log.{State};
 ghost use Rattle.room_log.specs.Follows.{most};
 ghost use Rattle.room_journal.specs.Appends.{IsClean};
+ghost use Rattle.room_journal.specs.Files.{reading};
 ghost use Rattle.room_replay.specs.Files.{Stands, StandsFor, files};
 ghost use Rattle.room_msg.specs.Frame.{client_frame_in};
 ghost use Rattle.room_links.specs.Outs.{written};
 ghost use Rattle.room_model.specs.Server as model;
 ghost use Rattle.room_store.specs.Stored.{IsOnDisk};
 ghost use Rattle.room_store.specs.Calls.{Compacts};
-ghost use Rattle.room_store.specs.Consistent.{BeforeOr, Since};
+ghost use Rattle.room_store.specs.Consistent.{BeforeOr, Since, Elsewhere, IsStill};
 ghost use Rattle.room_store.specs.Faults.{IsFault, HasDiskCause as HasStoreCause};
 ghost use Rattle.room_arrivals.specs.Serving.{limits_of, listed};
 ghost use Rattle.room_server.specs.Commit.{Puts, Stops, HoldsNow};
@@ -97,6 +98,17 @@ impl<T: Tree> Server<T> {
             → IfOk result (λ s. HoldsNow D.moment D.images base s.store.state disk.new) }
         ensures others { D.tells ≡ true → (f : ℕ) → (f ≡ base → ⊥) → (f ≡ base + 1 → ⊥)
             → D.seen disk.new f ≡ D.seen disk.old f }
+        ensures elsewhere { D.tells ≡ true → Within D.moment D.images disk.old disk.new
+            (Elsewhere base (D.images disk.old (D.moment disk.old))) }
+        // However it ends, it makes no more calls than these; where no file is made, the two syncs alone.
+        ensures bound { D.tells ≡ true → D.moment disk.new ≤ D.moment disk.old + 8 }
+        ensures two { D.tells ≡ true → IsStill (reading base (D.seen disk.old base) (D.seen disk.old (base + 1)))
+            → D.moment disk.new ≤ D.moment disk.old + 2 }
+        ensures counted { D.tells ≡ true
+            → IsStill (reading base (D.seen disk.old base) (D.seen disk.old (base + 1)))
+            → OnOk result (D.moment disk.new ≡ D.moment disk.old + 2) }
+        ensures still { D.tells ≡ true → IsStill (reading base (D.seen disk.old base) (D.seen disk.old (base + 1)))
+            → Within D.moment D.images disk.old disk.new (D.images disk.old (D.moment disk.old)) }
         ensures fault { D.tells ≡ true → IfErr result (λ e. (e ≡ StoreFault.Disk)
             ⊎ IsFault (files base (D.seen disk.old base) (D.seen disk.old (base + 1))) e) }
         ensures stop_fails { D.stopped disk.old ≡ false → D.stopped disk.new ≡ true → IsErr result }
@@ -297,6 +309,7 @@ impl<T: Tree> Server<T> {
         ensures compacts { D.tells ≡ true → broken_by self.old ≡ None
             → Compacts D.seen D.moment D.images self.old.store.place self.new.store.place self.old.store.state
             disk.old disk.new result }
+        ensures bound { D.tells ≡ true → D.moment disk.new ≤ D.moment disk.old + 6 }
         ensures base { self.new.store.place.base ≡ self.old.store.place.base }
         ensures broken { IsBroken (broken_by self.old) (broken_by self.new) result }
         ensures untouched { IsSome (broken_by self.old) → (self.new ≡ self.old) × (disk.new ≡ disk.old) }

@@ -9,12 +9,12 @@ use Rattle.room_log.specs.Laws.{ValidAfter}
 use Rattle.room_bytes.specs.declared.entries.Format.{Format}
 use Rattle.room_bytes.specs.declared.entries.Format.TheVariants.{Two}
 use Rattle.room_snapshot.specs.Reading.{snapshot_of}
-use Rattle.room_journal.specs.Files.{Held, Says, Opens, Closed, chosen, says, last_generation}
+use Rattle.room_journal.specs.Files.{Held, Says, Opens, Closed, New, chosen, reading, says, last_generation}
 use Rattle.room_journal.specs.Rest.{Place, place_at, room, end_of, other_of, renewed, IsReadyFile, IsRenewed}
 use Rattle.room_replay.specs.Files.{held_of, files_read, StandsFor}
-use Rattle.room_store.specs.Consistent.{IsBelow, AreTwo, Settled, IsKept, AsNew, AsHeld, IsReadyState, IsCompacted}
+use Rattle.room_store.specs.Consistent.{IsBelow, AreTwo, Settled, IsKept, AsNew, AsHeld, IsReadyState, IsCompacted, IsWritten, AreWritten}
 use Rattle.room_store.specs.Calls.{Compacts}
-use Rattle.room_store.proofs.Standing.{stands, opened_new, apart, turned, is_other, only_both, not_file, left_alone, elsewhere, on_other, on_file}
+use Rattle.room_store.proofs.Standing.{stands, counts, two_written, opened_new, apart, turned, is_other, only_both, not_file, left_alone, elsewhere, on_other, on_file}
 use Rattle.room_store.proofs.Generations.{two_at_last, renewed_next, renewed_last, is_less, is_last}
 
 -- what a renewal of the journal gives
@@ -28,6 +28,7 @@ pub record Renews {D T E : Type 0} (seen : D → Reads) (moment : D → ℕ) (im
   pub others : (f : ℕ) → (f ≡ other_of p.base p.file → ⊥) → seen new f ≡ seen old f
   pub any_moment : (s : List ℕ) (o : ℕ) → o ≡ other_of p.base p.file → IsReadyFile p.generation s ready → Only (seen old o) (images old (moment old) o)
       → Within moment images old new (OnFile o (IsRenewed (says (seen old o)) p.generation s) (images old (moment old)))
+  pub most : moment new ≤ moment old + 6
 
 -- the state's file that doesn't count, and that it is on the disk
 
@@ -77,6 +78,36 @@ old_stands seen now p s (AsHeld f st) o image is same says_so =
     (λ (e : says (image o.other) ≡ Closed). subst (λ (x : Says). IsBelow p.generation x) (sym e) tt) says_so) in
     stands p.base p.file h.other p.generation f (held_of h.snapshot h.bodies None) s image h.two (ap says same ∙ h.is) low h.state_is
 
+-- and such an image holds a room in the format that is written, where the files do
+
+reading_same : (base : ℕ) (image seen : Reads) → image base ≡ seen base → image (base + 1) ≡ seen (base + 1) → reading base (image base) (image (base + 1)) ≡ reading base (seen base) (seen (base + 1))
+reading_same base image seen first second = ap (λ (x : List ℕ). reading base x (image (base + 1))) first ∙ ap (λ (y : List ℕ). reading base (seen base) y) second
+
+old_written : (seen : Reads) (now : ℕ → List ℕ → Type 0) (p : Place) (s : State) (k : IsKept seen now p s) (o : Other seen now p) (image : Reads) → o.other ≡ other_of p.base p.file
+    → AreWritten p.base seen → image p.file ≡ seen p.file → (says (image o.other) ≡ says (seen o.other)) ⊎ (says (image o.other) ≡ Closed) → AreWritten p.base image
+old_written seen now p s (AsNew n) o image is w same says_so =
+    let new : reading p.base (seen p.base) (seen (p.base + 1)) ≡ New = ap (λ (x : Says). chosen p.base x (says (seen (p.base + 1)))) n.closed ∙ ap (λ (y : Says). chosen p.base Closed y) n.closed_too in
+    absurd (subst IsWritten new w)
+old_written seen now p s (AsHeld f st) o image is w same says_so =
+    let h = st.holds in
+    let at : o.other ≡ h.other = is ∙ sym (is_other p.base p.file h.other h.two) in
+    let low : IsBelow p.generation (says (image h.other)) = subst (λ (n : ℕ). IsBelow p.generation (says (image n))) at
+    (⊎_elim
+    (λ (e : says (image o.other) ≡ says (seen o.other)). subst (λ (x : Says). IsBelow p.generation x) (sym (e ∙ ap (λ (n : ℕ). says (seen n)) at)) h.below)
+    (λ (e : says (image o.other) ≡ Closed). subst (λ (x : Says). IsBelow p.generation x) (sym e) tt) says_so) in
+    let was = counts p.base p.file h.other p.generation f (held_of h.snapshot h.bodies None) seen h.two h.is h.below in
+    let then = counts p.base p.file h.other p.generation f (held_of h.snapshot h.bodies None) image h.two (ap says same ∙ h.is) low in
+    subst IsWritten (was ∙ sym then) w
+
+both_only : (seen : Reads) (now : ℕ → List ℕ → Type 0) (p : Place) (s : State) → IsKept seen now p s → Only (seen p.base) (now p.base) × Only (seen (p.base + 1)) (now (p.base + 1))
+both_only seen now p s (AsNew n) = (n.first, n.second)
+both_only seen now p s (AsHeld f st) = (st.first, st.second)
+
+pub kept_written : (seen : Reads) (now : ℕ → List ℕ → Type 0) (p : Place) (s : State) → IsKept seen now p s → AreWritten p.base seen → (image : Reads) → ((f : ℕ) → now f (image f)) → AreWritten p.base image
+kept_written seen now p s k w image each =
+    let only = both_only seen now p s k in
+    subst IsWritten (sym (reading_same p.base image seen (only.0 (image p.base) (each p.base)) (only.1 (image (p.base + 1)) (each (p.base + 1))))) w
+
 pub kept_stands : (seen : Reads) (now : ℕ → List ℕ → Type 0) (p : Place) (s : State) → IsKept seen now p s → (image : Reads) → ((f : ℕ) → now f (image f)) → StandsFor p.base s image
 kept_stands seen now p s k image each =
     let o = other_in seen now p s k in
@@ -106,6 +137,29 @@ anew_moments seen moment images p q s ready old new r rn k snapshot reads file =
     (λ (made : says (image o.other) ≡ room (p.generation + 1) snapshot []).
     stands p.base o.other p.file (p.generation + 1) Two (held_of snapshot [] None) s image (turned p.base p.file o.other o.two) made
     (subst (λ (l : List ℕ). IsBelow (p.generation + 1) (says l)) (sym same) o.below) (opened_new o.other snapshot s reads))
+    anew.1)
+    ((each o.other).0 refl))
+
+anew_written : {D T E : Type 0} (seen : D → Reads) (moment : D → ℕ) (images : D → Images) (p q : Place) (s : State) (ready : List ℕ) (old new : D) (r : Result T E)
+    → Renews seen moment images p q ready old new r → (k : IsKept (seen old) (images old (moment old)) p s) → (snapshot : List ℕ) → IsReadyFile p.generation snapshot ready → AreWritten p.base (seen old)
+    → WithinWhole moment images old new (AreWritten p.base)
+anew_written seen moment images p q s ready old new r rn k snapshot file w =
+    let o = other_in (seen old) (images old (moment old)) p s k in
+    let at = is_other p.base p.file o.other o.two in
+    let was = images old (moment old) in
+    on_whole (moment old) (moment new) (images old) (images new) (OnFile o.other (IsRenewed (says (seen old o.other)) p.generation snapshot) was) (AreWritten p.base)
+    (rn.any_moment snapshot o.other at file o.there)
+    (λ image each.
+    let far : p.file ≡ o.other → ⊥ = λ e. apart p.base p.file o.other o.two (sym e) in
+    let same : image p.file ≡ seen old p.file = o.here (image p.file) ((each p.file).1 far) in
+    ⊎_elim
+    (λ (still : says (image o.other) ≡ says (seen old o.other)). old_written (seen old) was p s k o image at w same (inl still))
+    (λ (anew : (p.generation < last_generation) × ((says (image o.other) ≡ Closed) ⊎ (says (image o.other) ≡ room (p.generation + 1) snapshot []))).
+    ⊎_elim
+    (λ (shut : says (image o.other) ≡ Closed). old_written (seen old) was p s k o image at w same (inr shut))
+    (λ (made : says (image o.other) ≡ room (p.generation + 1) snapshot []).
+    two_written p.base o.other p.file (p.generation + 1) (held_of snapshot [] None) image (turned p.base p.file o.other o.two) made
+    (subst (λ (l : List ℕ). IsBelow (p.generation + 1) (says l)) (sym same) o.below))
     anew.1)
     ((each o.other).0 refl))
 
@@ -216,4 +270,6 @@ compacts seen moment images p q s ready old new r law rn k rs =
       others = λ f one another. rn.others f (λ e. not_file p.base o.other p.file f swapped one another (e ∙ sym at));
       elsewhere = elsewhere p.base o.other p.file (moment old) (moment new) (images old) (images new) (IsRenewed (says (seen old o.other)) p.generation rs.snapshot) swapped
           (rn.any_moment rs.snapshot o.other at rs.ready o.there);
+      bound = rn.most;
+      written = anew_written seen moment images p q s ready old new r rn k rs.snapshot rs.ready;
     }

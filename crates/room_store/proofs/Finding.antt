@@ -1,14 +1,15 @@
 -- What was found of the files, and the state that they stand for.
-use Rattle.std.proofs.Common.{◌≡◌, ◌⊎◌, inl, inr, ⊎_elim, ℕ, ◌+◌, List, [], ◌∷◌, length, Bool, true, false, refl, sym, ◌∙◌, ap, subst, arith}
+use Rattle.std.proofs.Common.{◌≡◌, ◌⊎◌, inl, inr, ⊎_elim, ℕ, ◌+◌, ◌≤◌, List, [], ◌∷◌, length, Bool, true, false, refl, sym, ◌∙◌, ap, subst, arith}
 use Rattle.std.specs.Prelude.{nat_lt, Option, Some, None, Result, Ok, Err, OnOk, IfOk, IfErr, IsErr}
 use Rattle.room_disk.specs.Model.{Reads, Images, Only, RunsBetween, WholeBetween}
-use Rattle.room_disk.proofs.Moments.{on_whole, whole_then}
+use Rattle.room_disk.proofs.Moments.{on_whole, whole_then, keeps_then, sooner_or_later}
 use Rattle.room_nodes.specs.Shape.{Nodes, empty_tree}
 use Rattle.room_bytes.specs.declared.entries.Session.{Session as Here}
 use Rattle.room_snapshot.specs.Bounds.{state_of}
 use Rattle.room_log.specs.Log.{State, empty_state}
 use Rattle.room_log.specs.Follows.{IsValidState}
 use Rattle.room_bytes.specs.declared.entries.Format.{Format}
+use Rattle.room_bytes.specs.declared.entries.Format.TheVariants.{One}
 use Rattle.room_snapshot.specs.Reading.{snapshot_of}
 use Rattle.room_journal.specs.declared.fault.JournalFault.{JournalFault}
 use Rattle.room_journal.specs.declared.fault.JournalFault.TheVariants as journal
@@ -21,13 +22,17 @@ use Rattle.room_replay.specs.Files.{New as NewFiles}
 use Rattle.room_replay.specs.Faults.{IsFault as IsReplayFault}
 use Rattle.room_store.specs.declared.fault.StoreFault.{StoreFault}
 use Rattle.room_store.specs.declared.fault.StoreFault.TheVariants.{Disk, Memory}
-use Rattle.room_store.specs.Consistent.{IsBelow, AreTwo, Settled, IsKept, AsNew, BeforeOr, Since}
+use Rattle.room_store.specs.Consistent.{IsBelow, AreTwo, Settled, IsKept, AsNew, Elsewhere, BeforeOr, Since, IsWritten, IsDamaged, IsStill}
 use Rattle.room_store.specs.Faults.{IsFault, as_store}
 use Rattle.room_store.proofs.Generations.{is_less}
 
 pub ok_is : {T E : Type 0} (r : Result T E) (x : T) (P : Type 0) → OnOk r P → r ≡ Ok x → P
 ok_is (Ok y) x P is at = is
 ok_is (Err e) x P is at = cc at
+
+pub all_ok : {T E : Type 0} (r : Result T E) (P : Type 0) → P → OnOk r P
+all_ok (Ok y) P is = is
+all_ok (Err e) P is = tt
 
 -- both files of a new room are closed
 
@@ -264,3 +269,50 @@ not_true false never = refl
 
 pub goes_on : {T E : Type 0} (r : Result T E) (x : T) (b : Bool) → r ≡ Ok x → (b ≡ true → IsErr r) → b ≡ false
 goes_on r x b at fails = not_true b (λ stopped. not_err r x at (fails stopped))
+
+-- files for which no other is made
+
+pub never_new : (base : ℕ) (seen : Reads) → reading base (seen base) (seen (base + 1)) ≡ New → IsStill (reading base (seen base) (seen (base + 1))) → ⊥
+never_new base seen is (inl written) = subst IsWritten is written
+never_new base seen is (inr damaged) = subst IsDamaged (ap files_read is) damaged
+
+pub never_one : (base : ℕ) (seen : Reads) (file g : ℕ) (f : Format) (h : Held) (s : State) → reading base (seen base) (seen (base + 1)) ≡ Holds file f g h → f ≡ One
+    → files base (seen base) (seen (base + 1)) ≡ Room s → IsStill (reading base (seen base) (seen (base + 1))) → ⊥
+never_one base seen file g f h s is one room (inl written) = subst IsWritten (is ∙ ap (λ (e : Format). Holds file e g h) one) written
+never_one base seen file g f h s is one room (inr damaged) = subst IsDamaged room damaged
+
+pub reading_same : (base : ℕ) (seen later : Reads) → ((f : ℕ) → later f ≡ seen f) → reading base (later base) (later (base + 1)) ≡ reading base (seen base) (seen (base + 1))
+reading_same base seen later same = ap (λ (x : List ℕ). reading base x (later (base + 1))) (same base) ∙ ap (λ (y : List ℕ). reading base (seen base) y) (same (base + 1))
+
+pub still_same : (base : ℕ) (seen later : Reads) → ((f : ℕ) → later f ≡ seen f) → IsStill (reading base (seen base) (seen (base + 1))) → IsStill (reading base (later base) (later (base + 1)))
+still_same base seen later same is = subst IsStill (sym (reading_same base seen later same)) is
+
+-- the other files
+
+pub nothing_elsewhere : (base before : ℕ) (was : Images) → RunsBetween before before was was (Elsewhere base (was before))
+nothing_elsewhere base before was = record {
+  later = omega arith;
+  keeps = record { kept = λ m f c le left. left; nothing_else = λ m f c le left. left };
+  each = λ m f c from till left one another. let same : m ≡ before = omega (arith, from, till) in subst (λ (n : ℕ). was n f c) same left;
+}
+
+pub elsewhere_as : (b c before now : ℕ) (was is : Images) → b ≡ c → RunsBetween before now was is (Elsewhere b (was before)) → RunsBetween before now was is (Elsewhere c (was before))
+elsewhere_as b c before now was is same run = subst (λ (n : ℕ). RunsBetween before now was is (Elsewhere n (was before))) same run
+
+pub still_elsewhere : (base before now : ℕ) (was is : Images) → RunsBetween before now was is (was before) → RunsBetween before now was is (Elsewhere base (was before))
+still_elsewhere base before now was is run = record {
+  later = run.later;
+  keeps = run.keeps;
+  each = λ m f c from till left one another. run.each m f c from till left;
+}
+
+pub elsewhere_then : (base before mid now : ℕ) (was so is : Images) → RunsBetween before mid was so (was before) → RunsBetween mid now so is (Elsewhere base (so mid))
+    → RunsBetween before now was is (Elsewhere base (was before))
+elsewhere_then base before mid now was so is first second = record {
+  later = omega (arith, first.later, second.later);
+  keeps = keeps_then before mid was so is first.later first.keeps second.keeps;
+  each = λ m f c from till left one another. ⊎_elim
+      (λ (early : m ≤ mid). first.each m f c from early (second.keeps.nothing_else m f c early left))
+      (λ (late : mid ≤ m). first.each mid f c first.later (omega arith) (second.each m f c late till left one another))
+      (sooner_or_later m mid);
+}

@@ -10,7 +10,7 @@ use Rattle.room_bytes.specs.declared.entries.Format.TheVariants.{Two}
 use Rattle.room_journal.specs.Files.{Held, Holds, Says, Opens, Closed, Headless, chosen, reading, says}
 use Rattle.room_journal.specs.Rest.{Place, other_of}
 use Rattle.room_replay.specs.Files.{Files, Room, taken, held_of, or_damaged, replayed, opened, files_read, StandsFor}
-use Rattle.room_store.specs.Consistent.{IsBelow, AreTwo, Settled, Elsewhere}
+use Rattle.room_store.specs.Consistent.{IsBelow, AreTwo, Settled, Elsewhere, IsWritten, AreWritten}
 
 pub same_test : (a b : ℕ) → a ≡ b → (a == b) ≡ true
 same_test a b is = grind (arith, nat_tests)
@@ -48,6 +48,10 @@ counts base file other g f h image (inr two) is below =
 pub stands : (base file other g : ℕ) (f : Format) (h : Held) (s : State) (image : Reads) → AreTwo base file other → says (image file) ≡ Opens f g (Some h) → IsBelow g (says (image other))
     → opened file f h ≡ Room s → StandsFor base s image
 stands base file other g f h s image two is below state = inl (ap files_read (counts base file other g f h image two is below) ∙ state)
+
+-- and that they hold a room in the format that is written
+pub two_written : (base file other g : ℕ) (h : Held) (image : Reads) → AreTwo base file other → says (image file) ≡ Opens Two g (Some h) → IsBelow g (says (image other)) → AreWritten base image
+two_written base file other g h image two is below = subst IsWritten (sym (counts base file other g Two h image two is below)) tt
 
 -- one body more
 

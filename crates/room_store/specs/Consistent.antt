@@ -1,14 +1,15 @@
 -- What holds between the two files of a room, the place where its journal goes on, and a state.
-use Rattle.std.specs.Prelude.{◌≡◌, ◌⊎◌, ◌<◌, ◌≤◌, ℕ, ◌+◌, List, [], Some, None}
+use Rattle.std.specs.Prelude.{◌≡◌, ◌⊎◌, ◌<◌, ◌≤◌, ℕ, ◌+◌, List, [], ◌∷◌, ◌++◌, Some, None}
 use Rattle.room_disk.specs.Model.{Reads, Images, Only}
 use Rattle.room_log.specs.Log.{State, empty_state}
 use Rattle.room_log.specs.Follows.{IsValidState}
 use Rattle.room_bytes.specs.declared.entries.Format.{Format}
-use Rattle.room_bytes.specs.declared.entries.Format.TheVariants.{Two}
+use Rattle.room_bytes.specs.declared.entries.Format.TheVariants.{One, Two}
 use Rattle.room_snapshot.specs.Reading.{snapshot_of}
-use Rattle.room_journal.specs.Files.{Says, Closed, Headless, Opens, says}
+use Rattle.room_journal.specs.Files.{Says, Closed, Headless, Opens, says, Reading, New, Holds, Damaged, reading}
 use Rattle.room_journal.specs.Rest.{Place, room, end_of, IsReadyFile}
-use Rattle.room_replay.specs.Files.{Room, opened, held_of}
+use Rattle.room_replay.specs.Files.{Files, Room, opened, taken, held_of, files_read}
+use Rattle.room_replay.specs.Files.{New as NewFiles, Damaged as DamagedFiles}
 
 -- what a file says that doesn't count beside one of this generation
 abbrev pub IsBelow : ℕ → Says → Type 0
@@ -66,6 +67,19 @@ pub record IsCompacted (seen : Reads) (p : Place) (g : ℕ) (state : State) : Ty
   pub reads : snapshot_of Two snapshot ≡ Some state
   pub is : says (seen p.file) ≡ room g snapshot []
 
+-- the same file counts, of the same generation
+pub record IsSameFile (p q : Place) : Type 0 where
+  pub base : q.base ≡ p.base
+  pub file : q.file ≡ p.file
+  pub generation : q.generation ≡ p.generation
+
+-- the file that counts has this snapshot, and behind these bodies one that leads from the state s to the state t
+pub record HasOneMore (seen : Reads) (q : Place) (snapshot : List ℕ) (bodies : List (List ℕ)) (s t : State)
+    : Type 0 where
+  pub body : List ℕ
+  pub leads : taken Two s body ≡ Some t
+  pub is : says (seen q.file) ≡ room q.generation snapshot (bodies ++ body ∷ [])
+
 -- of the files that aren't the room's: what was
 abbrev pub Elsewhere : ℕ → (ℕ → List ℕ → Type 0) → ℕ → List ℕ → Type 0
 Elsewhere base was f c = (f ≡ base → ⊥) → (f ≡ base + 1 → ⊥) → was f c
@@ -77,3 +91,23 @@ Since from till is R = (m : ℕ) (image : Reads) → from ≤ m → m ≤ till �
 -- an image is one of these, or has R
 abbrev pub BeforeOr : (ℕ → List ℕ → Type 0) → (Reads → Type 0) → Reads → Type 0
 BeforeOr was R image = ((f : ℕ) → was f (image f)) ⊎ R image
+
+-- the files hold a room in the format that is written
+abbrev pub IsWritten : Reading → Type 0
+IsWritten New = ⊥
+IsWritten (Damaged file at) = ⊥
+IsWritten (Holds file One g h) = ⊥
+IsWritten (Holds file Two g h) = Unit {0}
+
+-- the files of a disk, or of an image of it
+abbrev pub AreWritten : ℕ → Reads → Type 0
+AreWritten base image = IsWritten (reading base (image base) (image (base + 1)))
+
+abbrev pub IsDamaged : Files → Type 0
+IsDamaged NewFiles = ⊥
+IsDamaged (Room s) = ⊥
+IsDamaged (DamagedFiles file at) = Unit {0}
+
+-- files for which recovery makes no other: they hold a room in the format that is written, or are damaged
+abbrev pub IsStill : Reading → Type 0
+IsStill r = IsWritten r ⊎ IsDamaged (files_read r)

@@ -1,6 +1,6 @@
 //! A room on its two files: a group is put behind the last, and the files are made anew.
 ghost use Rattle.std.specs.Prelude.{◌≡◌, ◌≤◌, ◌<◌, ◌^◌, ◌+◌, ℕ, length};
-ghost use Rattle.std.specs.Prelude.{IfOk, OnOk, IsErr, IsErrOf, true, false, Some, None};
+ghost use Rattle.std.specs.Prelude.{◌⊎◌, IfOk, OnOk, IsErr, IsErrOf, IsSome, true, false, Some, None};
 ghost use Rattle.room_disk.specs.Model.{Only};
 ghost use Rattle.room_log.specs.Log.{State};
 ghost use Rattle.room_log.specs.Follows.{IsValidState};
@@ -63,6 +63,7 @@ pub fn renew<D: Disk>(journal: &mut Journal, disk: &mut D, ready: &[u8]) -> Resu
         → Compacts D.seen D.moment D.images journal.old journal.new s disk.old disk.new result }
     ensures base { journal.new.base ≡ journal.old.base }
     ensures small { journal.old.end < 2 ^ 62 → OnOk result (journal.new.end < 2 ^ 62) }
+    ensures bound { D.tells ≡ true → D.moment disk.new ≤ D.moment disk.old + 6 }
     ensures stop_fails { D.stopped disk.new ≡ true → IsErr result }
     ensures clean { D.tells ≡ true → D.stops ≡ true → D.stopped disk.old ≡ false
         → IsClean D.seen D.leaves disk.old → OnOk result (IsClean D.seen D.leaves disk.new) }
@@ -102,6 +103,8 @@ impl Kept {
             → taken Two s (body_of ready.now) ≡ Some t
             → CommitsOrStops D.seen D.moment D.stopped D.leaves self.old.journal.base s t disk.old disk.new result }
         ensures base { OnOk result (self.new.journal.base ≡ self.old.journal.base) }
+        ensures untouched { IsSome self.old.broken
+            → (self.new.journal ≡ self.old.journal) × (disk.new ≡ disk.old) }
         ensures broken { IsBroken self.old.broken self.new.broken result }
         ensures came { D.came disk.old disk.new }
         ensures cause { HasDiskCause D.faults D.inner_faults D.stopped disk.old disk.new result }
@@ -134,7 +137,14 @@ impl Kept {
             → Settled Two (D.seen disk.new) (D.images disk.new (D.moment disk.new)) self.new.journal
             (state_of state.now.count state.now.sessions (T.nodes state.now.tree)) }
         ensures base { self.new.journal.base ≡ self.old.journal.base }
+        ensures bound { D.tells ≡ true → D.moment disk.new ≤ D.moment disk.old + 6 }
         ensures broken { IsBrokenOrFull self.old.broken self.new.broken result }
+        ensures untouched { IsSome self.old.broken
+            → (self.new.journal ≡ self.old.journal) × (disk.new ≡ disk.old) }
+        // Out of memory by itself: nothing has changed.
+        ensures memory { IsErrOf result StoreFault.Memory → self.new.broken ≡ None
+            → (self.new.journal ≡ self.old.journal) × (disk.new ≡ disk.old) }
+        ensures short { IsErrOf result StoreFault.Memory → (disk.new ≡ disk.old) ⊎ (D.may_run_out ≡ true) }
         ensures stop_fails { D.stopped disk.old ≡ false → D.stopped disk.new ≡ true → IsErr result }
         ensures clean { D.tells ≡ true → D.stops ≡ true → D.stopped disk.old ≡ false
             → IsClean D.seen D.leaves disk.old → OnOk result (IsClean D.seen D.leaves disk.new) }

@@ -1,6 +1,7 @@
 //! A store begins: with what its files stand for, which are written anew where they are of the older format, or new.
-ghost use Rattle.std.specs.Prelude.{◌≡◌, ◌⊎◌, ◌≤◌, ◌<◌, ◌^◌, ◌+◌, ℕ, length, IfOk, IfErr, OnOk, IsErr, true, false, None};
-ghost use Rattle.room_disk.specs.Model.{Only, WithinWhole};
+ghost use Rattle.std.specs.Prelude.{◌≡◌, ◌⊎◌, ◌≤◌, ◌<◌, ◌^◌, ◌+◌, ℕ, length, true, false, None};
+ghost use Rattle.std.specs.Prelude.{IfOk, IfErr, OnOk, IsErr};
+ghost use Rattle.room_disk.specs.Model.{Only, Within, WithinWhole};
 ghost use Rattle.room_nodes.specs.Shape.{empty_tree};
 ghost use Rattle.room_log.specs.Log.{State};
 ghost use Rattle.room_log.specs.Follows.{IsValidState};
@@ -11,7 +12,7 @@ ghost use Rattle.room_journal.specs.Files.{reading};
 ghost use Rattle.room_journal.specs.Found.{IsFound, HasShape};
 ghost use Rattle.room_replay.specs.Files.{Stands, StandsFor, files};
 ghost use Rattle.room_store.specs.Calls.{Compacts};
-ghost use Rattle.room_store.specs.Consistent.{BeforeOr, Settled, IsKept, Since};
+ghost use Rattle.room_store.specs.Consistent.{BeforeOr, Settled, IsKept, Since, Elsewhere, IsStill};
 ghost use Rattle.room_store.specs.Faults.{IsFault, HasDiskCause};
 
 use crate::fault::{StoreFault, as_store, told};
@@ -49,6 +50,7 @@ fn make_file<D: Disk, T: Tree>(
         (state_of state.now.count state.now.sessions (T.nodes state.now.tree)) disk.old disk.new result }
     ensures base { journal.new.base ≡ journal.old.base }
     ensures small { journal.old.end < 2 ^ 62 → OnOk result (journal.new.end < 2 ^ 62) }
+    ensures bound { D.tells ≡ true → D.moment disk.new ≤ D.moment disk.old + 6 }
     ensures fault { IfErr result (λ e. (e ≡ StoreFault.Disk) ⊎ (e ≡ StoreFault.Memory)) }
     ensures stop_fails { D.stopped disk.old ≡ false → D.stopped disk.new ≡ true → IsErr result }
     ensures clean { D.tells ≡ true → D.stops ≡ true → D.stopped disk.old ≡ false
@@ -90,6 +92,12 @@ fn begin<D: Disk, T: Tree>(
         → IsKept (D.seen disk.old) (D.images disk.old (D.moment disk.old)) journal
         (state_of state.count state.sessions (T.nodes state.tree))
         → (f : ℕ) → (f ≡ journal.base → ⊥) → (f ≡ journal.base + 1 → ⊥) → D.seen disk.new f ≡ D.seen disk.old f }
+    ensures elsewhere { D.tells ≡ true
+        → IsKept (D.seen disk.old) (D.images disk.old (D.moment disk.old)) journal
+        (state_of state.count state.sessions (T.nodes state.tree))
+        → Within D.moment D.images disk.old disk.new
+        (Elsewhere journal.base (D.images disk.old (D.moment disk.old))) }
+    ensures bound { D.tells ≡ true → D.moment disk.new ≤ D.moment disk.old + 6 }
     ensures fault { IfErr result (λ e. (e ≡ StoreFault.Disk) ⊎ (e ≡ StoreFault.Memory)) }
     ensures stop_fails { D.stopped disk.old ≡ false → D.stopped disk.new ≡ true → IsErr result }
     ensures clean { D.tells ≡ true → D.stops ≡ true → D.stopped disk.old ≡ false
@@ -141,6 +149,12 @@ fn resume<D: Disk, T: Tree>(
         → WithinWhole D.moment D.images disk.old disk.new (StandsFor base s) }
     ensures others { D.tells ≡ true → (f : ℕ) → (f ≡ base → ⊥) → (f ≡ base + 1 → ⊥)
         → D.seen disk.new f ≡ D.seen disk.old f }
+    ensures elsewhere { D.tells ≡ true → Within D.moment D.images disk.old disk.new
+        (Elsewhere base (D.images disk.old (D.moment disk.old))) }
+    ensures bound { D.tells ≡ true → D.moment disk.new ≤ D.moment disk.old + 6 }
+    // Where no file is made.
+    ensures still { D.tells ≡ true → IsStill (reading base (D.seen disk.old base) (D.seen disk.old (base + 1)))
+        → disk.new ≡ disk.old }
     ensures fault { D.tells ≡ true → IfErr result (λ e. (e ≡ StoreFault.Disk)
         ⊎ IsFault (files base (D.seen disk.old base) (D.seen disk.old (base + 1))) e) }
     ensures stop_fails { D.stopped disk.old ≡ false → D.stopped disk.new ≡ true → IsErr result }
@@ -222,6 +236,16 @@ pub fn start<D: Disk, T: Tree>(
         (StandsFor base (state_of s.state.count s.state.sessions (T.nodes s.state.tree)))) }
     ensures others { D.tells ≡ true → (f : ℕ) → (f ≡ base → ⊥) → (f ≡ base + 1 → ⊥)
         → D.seen disk.new f ≡ D.seen disk.old f }
+    ensures elsewhere { D.tells ≡ true → Within D.moment D.images disk.old disk.new
+        (Elsewhere base (D.images disk.old (D.moment disk.old))) }
+    ensures bound { D.tells ≡ true → D.moment disk.new ≤ D.moment disk.old + 8 }
+    // Where no file is made, it makes the two syncs alone.
+    ensures two { D.tells ≡ true → IsStill (reading base (D.seen disk.old base) (D.seen disk.old (base + 1)))
+        → D.moment disk.new ≤ D.moment disk.old + 2 }
+    ensures counted { D.tells ≡ true → IsStill (reading base (D.seen disk.old base) (D.seen disk.old (base + 1)))
+        → OnOk result (D.moment disk.new ≡ D.moment disk.old + 2) }
+    ensures still { D.tells ≡ true → IsStill (reading base (D.seen disk.old base) (D.seen disk.old (base + 1)))
+        → Within D.moment D.images disk.old disk.new (D.images disk.old (D.moment disk.old)) }
     ensures fault { D.tells ≡ true → IfErr result (λ e. (e ≡ StoreFault.Disk)
         ⊎ IsFault (files base (D.seen disk.old base) (D.seen disk.old (base + 1))) e) }
     ensures stop_fails { D.stopped disk.old ≡ false → D.stopped disk.new ≡ true → IsErr result }

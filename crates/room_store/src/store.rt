@@ -1,14 +1,15 @@
 //! The store of a room: its state, and the two files that hold it.
-ghost use Rattle.std.specs.Prelude.{◌≡◌, ◌⊎◌, ◌≤◌, ◌<◌, ◌^◌, ◌+◌, ℕ, IfOk, IfErr, IfSome, OnOk, OnErr, IsErr, IsErrOf};
-ghost use Rattle.std.specs.Prelude.{true, false, Some, None};
-ghost use Rattle.room_disk.specs.Model.{WithinWhole};
+ghost use Rattle.std.specs.Prelude.{◌≡◌, ◌⊎◌, ◌≤◌, ◌<◌, ◌^◌, ◌+◌, ℕ, true, false, Some, None};
+ghost use Rattle.std.specs.Prelude.{IfOk, IfErr, IfSome, OnOk, OnErr, IsErr, IsErrOf, IsSome};
+ghost use Rattle.room_disk.specs.Model.{Within, WithinWhole};
 ghost use Rattle.room_nodes.specs.Shape.{empty_tree};
 ghost use Rattle.room_log.specs.Log.{State};
 ghost use Rattle.room_log.specs.Follows.{IsValidState, most};
 ghost use Rattle.room_journal.specs.Appends.{IsClean};
+ghost use Rattle.room_journal.specs.Files.{reading};
 ghost use Rattle.room_replay.specs.Files.{Stands, StandsFor, files};
 ghost use Rattle.room_store.specs.Calls.{Compacts, Commits, CommitsOrStops};
-ghost use Rattle.room_store.specs.Consistent.{BeforeOr, Since};
+ghost use Rattle.room_store.specs.Consistent.{BeforeOr, Since, Elsewhere, IsStill};
 ghost use Rattle.room_store.specs.Faults.{IsFault, HasDiskCause, IsBroken, IsBrokenOrFull};
 ghost use Rattle.room_store.specs.Stored.{held, IsOpen, IsOnDisk};
 
@@ -95,6 +96,18 @@ impl<T: Tree> Store<T> {
             Since (D.moment disk.old + 2) (D.moment disk.new) (D.images disk.new) (StandsFor base s.state)) }
         ensures others { D.tells ≡ true → (f : ℕ) → (f ≡ base → ⊥) → (f ≡ base + 1 → ⊥)
             → D.seen disk.new f ≡ D.seen disk.old f }
+        ensures elsewhere { D.tells ≡ true → Within D.moment D.images disk.old disk.new
+            (Elsewhere base (D.images disk.old (D.moment disk.old))) }
+        // However it ends, it makes no more calls than the two syncs and those of a compaction; where no file is made,
+        // the two syncs alone, and each image is one from before the call.
+        ensures bound { D.tells ≡ true → D.moment disk.new ≤ D.moment disk.old + 8 }
+        ensures two { D.tells ≡ true → IsStill (reading base (D.seen disk.old base) (D.seen disk.old (base + 1)))
+            → D.moment disk.new ≤ D.moment disk.old + 2 }
+        ensures counted { D.tells ≡ true
+            → IsStill (reading base (D.seen disk.old base) (D.seen disk.old (base + 1)))
+            → OnOk result (D.moment disk.new ≡ D.moment disk.old + 2) }
+        ensures still { D.tells ≡ true → IsStill (reading base (D.seen disk.old base) (D.seen disk.old (base + 1)))
+            → Within D.moment D.images disk.old disk.new (D.images disk.old (D.moment disk.old)) }
         ensures fault { D.tells ≡ true → IfErr result (λ e. (e ≡ StoreFault.Disk)
             ⊎ IsFault (files base (D.seen disk.old base) (D.seen disk.old (base + 1))) e) }
         ensures stop_fails { D.stopped disk.old ≡ false → D.stopped disk.new ≡ true → IsErr result }
@@ -157,10 +170,16 @@ impl<T: Tree> Store<T> {
         ensures compacts { D.tells ≡ true → self.old.broken ≡ None
             → Compacts D.seen D.moment D.images self.old.place self.new.place self.old.state disk.old disk.new result }
         ensures base { self.new.place.base ≡ self.old.place.base }
+        ensures bound { D.tells ≡ true → D.moment disk.new ≤ D.moment disk.old + 6 }
         ensures state { self.new.state ≡ self.old.state }
         ensures before { self.new.before ≡ None }
         ensures limits { self.new.limits ≡ self.old.limits }
         ensures broken { IsBrokenOrFull self.old.broken self.new.broken result }
+        ensures untouched { IsSome self.old.broken → (self.new ≡ self.old) × (disk.new ≡ disk.old) }
+        // Out of memory: nothing has changed, unless the disk was out of memory, which breaks the store.
+        ensures memory { IsErrOf result StoreFault.Memory → self.new.broken ≡ None
+            → (self.new ≡ self.old) × (disk.new ≡ disk.old) }
+        ensures short { IsErrOf result StoreFault.Memory → (disk.new ≡ disk.old) ⊎ (D.may_run_out ≡ true) }
         ensures stop_fails { D.stopped disk.old ≡ false → D.stopped disk.new ≡ true → IsErr result }
         ensures clean { D.tells ≡ true → D.stops ≡ true → D.stopped disk.old ≡ false
             → IsClean D.seen D.leaves disk.old → OnOk result (IsClean D.seen D.leaves disk.new) }
@@ -206,6 +225,8 @@ impl<T: Tree> Store<T> {
         ensures closed { self.new.before ≡ None }
         ensures limits { self.new.limits ≡ self.old.limits }
         ensures broken { IsBroken self.old.broken self.new.broken result }
+        ensures untouched { IsSome self.old.broken
+            → (self.new.place ≡ self.old.place) × (disk.new ≡ disk.old) }
         ensures came { D.came disk.old disk.new }
         ensures cause { HasDiskCause D.faults D.inner_faults D.stopped disk.old disk.new result }
         ensures memory { IsErrOf result StoreFault.Memory → D.may_run_out ≡ true }

@@ -29,6 +29,7 @@ returns-in_err-put_down-clause-appends g c told b n rests = record {
   any_moment = λ s bs is.
       let at = place_at _ _ _ rests s bs is in
       narrow _ _ _ _ _ _ _ (c.put_down.ensures.within told) (first_images _ _ _ _ _ at _ c.requires.ready _ (c.requires.durable told));
+  most = let first = c.put_down.ensures.most told in omega (arith, first);
 }
 
 pub returns-in_err-put_down-2-clause-appends : goal.returns-in_err-put_down-2-clause-appends
@@ -44,6 +45,7 @@ returns-in_err-put_down-2-clause-appends g c told b n rests = record {
       followed _ _ _ _ _ _ _ _ _ _ (c.put_down.ensures.within told) (c.put_down-2.ensures.within told)
       (first_images _ _ _ _ _ at _ c.requires.ready _ (c.requires.durable told))
       (second_images _ _ _ _ _ at _ c.requires.ready _ staged _ (c.in_ok-put_down.ensures.durable told));
+  most = let first = c.put_down.ensures.most told in let second = c.put_down-2.ensures.most told in omega (arith, first, second);
 }
 
 pub returns-clause-appends : goal.returns-clause-appends
@@ -71,6 +73,7 @@ returns-clause-appends g c told b n rests =
           followed _ _ _ _ _ _ _ _ _ _ (c.put_down.ensures.within told) (c.put_down-2.ensures.within told)
           (first_images _ _ _ _ _ at _ c.requires.ready _ (c.requires.durable told))
           (second_images _ _ _ _ _ at _ c.requires.ready _ staged _ (c.in_ok-put_down.ensures.durable told));
+      most = let first = c.put_down.ensures.most told in let second = c.put_down-2.ensures.most told in omega (arith, first, second);
     }
 
 pub returns-in_err-put_down-clause-stop : goal.returns-in_err-put_down-clause-stop

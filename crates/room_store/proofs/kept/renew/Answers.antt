@@ -14,4 +14,5 @@ returns-clause-compacts g c told s kept ready =
       counted = e.counted told;
       others = e.others told;
       any_moment = e.any_moment told;
+      most = e.most told;
     }) kept ready

@@ -15,3 +15,9 @@ returns-in-Err-clause-any_moment g c told kept = (c.make_file.ensures.compacts t
 
 pub returns-in-Err-clause-others : goal.returns-in-Err-clause-others
 returns-in-Err-clause-others g c told kept = (c.make_file.ensures.compacts told kept).others
+
+pub returns-in-Ok-clause-elsewhere : goal.returns-in-Ok-clause-elsewhere
+returns-in-Ok-clause-elsewhere g c told kept = (c.make_file.ensures.compacts told kept).elsewhere
+
+pub returns-in-Err-clause-elsewhere : goal.returns-in-Err-clause-elsewhere
+returns-in-Err-clause-elsewhere g c told kept = (c.make_file.ensures.compacts told kept).elsewhere

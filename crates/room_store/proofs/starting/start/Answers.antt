@@ -1,7 +1,8 @@
-use Rattle.std.proofs.Common.{◌+◌}
+use Rattle.std.proofs.Common.{◌≡◌, ◌+◌, ◌≤◌, ◌∙◌, ap, sym, subst}
 use Rattle.room_snapshot.specs.Bounds.{state_of}
 use Rattle.room_replay.specs.Files.{StandsFor, files}
-use Rattle.room_store.proofs.Finding.{ok_is, still_old, old_then, stands_same, since_of, goes_on}
+use Rattle.room_disk.specs.Model.{Within}
+use Rattle.room_store.proofs.Finding.{ok_is, all_ok, still_old, old_then, stands_same, still_same, still_elsewhere, elsewhere_then, since_of, goes_on}
 use Rattle.room_store.proofs.starting.start.Goals as goal
 
 pub returns-in-Ok-clause-any_moment : goal.returns-in-Ok-clause-any_moment
@@ -25,3 +26,33 @@ returns-in-Ok-clause-clean g c told stops still clean =
 
 pub returns-in-Err-clause-any_moment : goal.returns-in-Err-clause-any_moment
 returns-in-Err-clause-any_moment g c told s is = still_old _ _ _ _ (StandsFor c.args.base s) (c.recover.ensures.within told)
+
+pub returns-in-Ok-clause-two : goal.returns-in-Ok-clause-two
+returns-in-Ok-clause-two g c told still =
+    let d = g.D.Disk in
+    let old = c.args.disk.now in
+    let mid = c.recover.new.disk in
+    let same : c.resume.new.disk ≡ mid = c.resume.ensures.still told (still_same c.args.base (d.seen old) (d.seen mid) (c.recover.ensures.same told) still) in
+    subst (λ e. d.moment e ≤ d.moment old + 2) (sym same) (c.recover.ensures.most told)
+
+pub returns-in-Ok-clause-counted : goal.returns-in-Ok-clause-counted
+returns-in-Ok-clause-counted g c told still =
+    let d = g.D.Disk in
+    let old = c.args.disk.now in
+    let mid = c.recover.new.disk in
+    let same : c.resume.new.disk ≡ mid = c.resume.ensures.still told (still_same c.args.base (d.seen old) (d.seen mid) (c.recover.ensures.same told) still) in
+    all_ok c.resume.result _ (ap d.moment same ∙ ok_is c.recover.result _ _ (c.recover.ensures.counted told) c.in-Ok.is)
+
+pub returns-in-Ok-clause-still : goal.returns-in-Ok-clause-still
+returns-in-Ok-clause-still g c told still =
+    let d = g.D.Disk in
+    let old = c.args.disk.now in
+    let mid = c.recover.new.disk in
+    let same : c.resume.new.disk ≡ mid = c.resume.ensures.still told (still_same c.args.base (d.seen old) (d.seen mid) (c.recover.ensures.same told) still) in
+    subst (λ e. Within d.moment d.images old e (d.images old (d.moment old))) (sym same) (c.recover.ensures.within told)
+
+pub returns-in-Ok-clause-elsewhere : goal.returns-in-Ok-clause-elsewhere
+returns-in-Ok-clause-elsewhere g c told = elsewhere_then c.args.base _ _ _ _ _ _ (c.recover.ensures.within told) (c.resume.ensures.elsewhere told)
+
+pub returns-in-Err-clause-elsewhere : goal.returns-in-Err-clause-elsewhere
+returns-in-Err-clause-elsewhere g c told = still_elsewhere c.args.base _ _ _ _ (c.recover.ensures.within told)

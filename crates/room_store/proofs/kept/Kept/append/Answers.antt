@@ -22,4 +22,4 @@ returns-clause-commits g c told whole s t st follows valid =
 pub returns-clause-stop : goal.returns-clause-stop
 returns-clause-stop g c told stops still whole s t st follows =
     subst (λ r. CommitsOrStops g.D.Disk.seen g.D.Disk.moment g.D.Disk.stopped g.D.Disk.leaves c.args.self.now.journal.base s t c.args.disk.now c.append-answer.new.disk r) (sym c.told.ensures)
-    (stops_by g.D.Disk.seen g.D.Disk.moment g.D.Disk.images g.D.Disk.stopped g.D.Disk.leaves c.args.self.now.journal s t c.args.ready.now _ _ _ (c.append-answer.ensures.stop told stops still) st follows)
+    (stops_by g.D.Disk.seen g.D.Disk.moment g.D.Disk.images g.D.Disk.stopped g.D.Disk.leaves c.args.self.now.journal s t c.args.ready.now _ _ _ (c.append-answer.ensures.stop told stops still) st follows (c.append-answer.ensures.appends told).most)
