@@ -1,5 +1,5 @@
 -- Lists without a bag keep their bounds.
-use Rattle.std.proofs.Common.{◌≡◌, ◌≤◌, ◌∙◌, List, [], ◌∷◌, length, take, drop, Option, Some, None, refl, sym, ap, subst, arith}
+use Rattle.std.proofs.Common.{◌≡◌, ◌≤◌, ◌∙◌, List, [], ◌∷◌, length, Option, Some, None, refl, sym, ap, subst, arith}
 use Rattle.std.proofs.Common.{length-take}
 use Rattle.room_nodes.specs.declared.nodes.Change.{Change}
 use Rattle.room_model.specs.History.{History, note, noted, redone, resume, resumed_at, put_undo}

@@ -1,14 +1,14 @@
 -- What an edit makes of an account, by what it makes of operations.
 use Rattle.std.proofs.Common.{◌≡◌, ◌≤◌, ◌<◌, ◌+◌, ◌++◌, ◌∙◌, ℕ, Bool, true, false, if◌then◌else◌, nat_lt, List, [], ◌∷◌}
-use Rattle.std.proofs.Common.{Option, Some, None, IfOk, refl, sym, ap, subst, arith}
+use Rattle.std.proofs.Common.{Option, Some, None, IfOk, refl, sym, ap, arith}
 use Rattle.std.specs.Prelude.{Result, Ok, Err}
 use Rattle.std.proofs.lemmas.Bool.Decides.{nat_tests}
 use Rattle.room_nodes.specs.declared.nodes.Body.{Body}
 use Rattle.room_nodes.specs.declared.nodes.Change.{Change}
 use Rattle.room_nodes.specs.Shape.{Nodes}
 use Rattle.room_log.specs.Log.{bodies_of, ops_from}
-use Rattle.room_model.specs.Account.{Account, OpenBatch, clocks, shown, open_ops, size_of, frame_of_ops, most_bytes}
-use Rattle.room_model.specs.Calls.{Done, edit, edit_on, edit_made, edit_sized, edited, edited_in, changes_back}
+use Rattle.room_model.specs.Account.{Account, OpenBatch, shown, open_ops, most_bytes}
+use Rattle.room_model.specs.Calls.{edit, edit_on, edit_made, edit_sized, edited, edited_in, changes_back}
 use Rattle.room_model.specs.Calls.{tree_or_bare}
 use Rattle.room_model.specs.Edits as model
 use Rattle.room_model.specs.Edits.{Edit, Made, Clocks, make}
@@ -18,7 +18,7 @@ use Rattle.room_props.specs.declared.editing.Made.{Made as MadeHere}
 use Rattle.room_props.specs.declared.editing.Clocks.{Clocks as ClocksHere}
 use Rattle.room_props.specs.declared.editing.EditFault.{EditFault}
 use Rattle.room_props.specs.declared.editing.EditFault.TheVariants as fault
-use Rattle.room_editor.specs.Editor.{Outcome, done}
+use Rattle.room_editor.specs.Editor.{done}
 use Rattle.room_editor.specs.Making.{made_at, made_by, put_edit, IsSizeFault}
 use Rattle.room_editor.specs.Sizes.{bytes_of, frame_bytes}
 use Rattle.room_editor.proofs.Made.{made_runs, made_node}

@@ -2,6 +2,7 @@ pub mod Bounds
 pub mod Edited
 pub mod Made
 pub mod Ordered
+pub mod Patches
 pub mod Pending
 pub mod Placed
 pub mod Returning

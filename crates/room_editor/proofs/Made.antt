@@ -1,5 +1,5 @@
 -- What an edit makes: operations that run on, and a node clock in its bounds.
-use Rattle.std.proofs.Common.{◌≡◌, ◌⊎◌, inl, inr, ◌≤◌, ◌+◌, ◌-◌, ◌∙◌, ℕ, Bool, true, false, cond, ◌==◌, ◌||◌, not}
+use Rattle.std.proofs.Common.{◌≡◌, ◌⊎◌, inl, inr, ◌≤◌, ◌+◌, ◌-◌, ℕ, Bool, true, false, cond, ◌==◌, ◌||◌, not}
 use Rattle.std.proofs.Common.{nat_le, nat_lt, List, length, Option, Some, None, refl, sym, ap, subst, arith}
 use Rattle.std.specs.Prelude.{Result, Ok, Err}
 use Rattle.std.specs.FinMap.{get}
@@ -55,7 +55,8 @@ module _ (c : Clocks) (m : Made) where
   by_depths false true f g nodes bs o h = cc
   by_depths false false f g nodes bs o h = by_place nodes bs o h
 
-  by_index : (r : Result (Option ℕ) EditFault) (a b : Bool) (f g : EditFault) (nodes : ℕ) (bs : List Body) (o : Option ℕ)
+  by_index : (r : Result (Option ℕ) EditFault) (a b : Bool) (f g : EditFault) (nodes : ℕ) (bs : List Body)
+      (o : Option ℕ)
       → and_then r (λ (i : Option ℕ). cond a (Err f) (cond b (Err g) (placed c nodes bs o))) ≡ Ok m → Makes
   by_index (Err e) a b f g nodes bs o h = cc
   by_index (Ok i) a b f g nodes bs o h = by_depths a b f g nodes bs o h

@@ -1,7 +1,8 @@
 -- What is pending in an overlay, before and after what it takes.
-use Rattle.std.proofs.Common.{◌≡◌, ℕ, zero, suc, slice_get, ◌+◌, ◌-◌, ◌<◌, ◌≤◌, ◌∙◌, ◌==◌, max, Bool, true, false, cond, ◌&&◌, not, nat_le}
-use Rattle.std.proofs.Common.{nat_lt, List, [], ◌∷◌, ◌++◌, length, drop, refl, sym, ap, arith, length-append}
-use Rattle.std.specs.Prelude.{Option, Some, None, Result, Ok, Err}
+use Rattle.std.proofs.Common.{◌≡◌, ℕ, zero, suc, slice_get, ◌+◌, ◌-◌, ◌<◌, ◌≤◌, ◌∙◌, ◌==◌, max, Bool, true, false, cond}
+use Rattle.std.proofs.Common.{◌&&◌, not, nat_le}
+use Rattle.std.proofs.Common.{nat_lt, List, [], ◌∷◌, ◌++◌, length, drop, refl, sym, ap, arith}
+use Rattle.std.specs.Prelude.{Some, None, Result, Ok, Err}
 use Rattle.std.proofs.lemmas.Bool.Decides.{nat_tests}
 use Rattle.room_nodes.specs.declared.nodes.Body.{Body}
 use Rattle.room_nodes.specs.declared.nodes.Op.{Op}
@@ -9,10 +10,11 @@ use Rattle.room_nodes.specs.Shape.{Nodes}
 use Rattle.room_nodes.specs.Steps.{fold}
 use Rattle.room_log.specs.Log.{actor_of, clock_of, bodies_of, ops_from, op_of}
 use Rattle.room_model.specs.Account.{Batch, all_bodies, all_ops, batch_ops, beyond, ends}
-use Rattle.room_model.specs.Receive.{FrameFault, Gap, told_by}
+use Rattle.room_model.specs.Receive.{Gap, told_by}
 use Rattle.room_model.specs.Sound.{RunsOn}
 use Rattle.room_overlay.specs.Own.{opened}
-use Rattle.room_overlay.specs.Over.{Over, pending, pending_bodies, last_issued, next_clock, opened_ops, shown, load, load_at, loaded, state_fault}
+use Rattle.room_overlay.specs.Over.{Over, pending, pending_bodies, last_issued, next_clock, opened_ops, shown, load}
+use Rattle.room_overlay.specs.Over.{load_at, loaded}
 use Rattle.room_overlay.specs.Over.{update, update_told, updated}
 use Rattle.room_editor.specs.Taking.{own_count, state_shows, update_shows}
 use Rattle.room_editor.proofs.Running.{all_length, beyond_drops, drop_front, ends_kept}
@@ -207,7 +209,8 @@ pub opened_clock : (o : Over) (os : List Op) (n r : ℕ) → os ≡ opened_ops o
 opened_clock o os n r is last h =
     let run : os ≡ ops_from o.actor (n + 1) (bodies_of os) =
     is ∙ ap (λ k. ops_from o.actor (k + 1) (opened o.batch)) (sym last)
-    ∙ ap (ops_from o.actor (n + 1)) (sym (ap bodies_of is ∙ bodies_again o.actor (last_issued o + 1) (opened o.batch))) in
+    ∙ ap (ops_from o.actor (n + 1))
+    (sym (ap bodies_of is ∙ bodies_again o.actor (last_issued o + 1) (opened o.batch))) in
     let long : length os ≡ length (opened o.batch) =
     ap length is ∙ length_ops o.actor (last_issued o + 1) (opened o.batch) in
     omega (arith, h o.actor run, long, last)

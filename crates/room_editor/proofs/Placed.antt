@@ -59,14 +59,14 @@ put_at s o p g k os back bytes st some run size to more =
 
 module _ (room : List ℕ) (s : Option Resume) (node : ℕ) (me : List (List ℕ × Value)) (others : Others)
     (unsent : List (List ℕ)) (h : History) (g : Option Gathered) (x : Account) (oo : Option Over)
-    (is : account_of room s oo node me others unsent h g ≡ x) (st : StandsIn s oo g) where
+    (is : account_of room s oo node me others unsent h g ≡ x) (st : StandsIn s oo g h) where
   open_bytes : (o : Option Over) → oo ≡ o → bytes_in g ≡ bytes_of (open_ops x)
   open_bytes None none =
-      let e = subst (λ (q : Option Over). StandsIn s q g) none st in
-      e ∙ ap bytes_of (sym (none_opened room s node me others unsent h g e)
+      let e = subst (λ (q : Option Over). StandsIn s q g h) none st in
+      e.bytes ∙ ap bytes_of (sym (none_opened room s node me others unsent h g e)
       ∙ ap open_ops (ap (λ q. account_of room s q node me others unsent h g) (sym none) ∙ is))
   open_bytes (Some o) some =
-      let e = subst (λ (q : Option Over). StandsIn s q g) some st in
+      let e = subst (λ (q : Option Over). StandsIn s q g h) some st in
       e.bytes ∙ ap bytes_of (opened_is room s node me others unsent h g o e
       ∙ ap open_ops (ap (λ q. account_of room s q node me others unsent h g) (sym some) ∙ is))
 
@@ -78,7 +78,7 @@ module _ (room : List ℕ) (s : Option Resume) (node : ℕ) (me : List (List ℕ
       → bytes ≡ bytes_of (open_ops x ++ os) → p ≡ added_to o (bodies_of os) → k ≡ gathered_more bytes back g
       → Stands s p k
   put_stands o p k os back bytes there some run size to more =
-      let e = subst (λ (q : Option Over). StandsIn s q g) there st in
+      let e = subst (λ (q : Option Over). StandsIn s q g h) there st in
       let y = account_of room s (Some o) node me others unsent h g in
       let same : x ≡ y = sym (ap (λ q. account_of room s q node me others unsent h g) (sym there) ∙ is) in
       let run-here : os ≡ ops_from o.actor (next_clock o) (bodies_of os) =

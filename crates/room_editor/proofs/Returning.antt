@@ -1,7 +1,7 @@
 -- What an entry makes of an account as it goes back.
-use Rattle.std.proofs.Common.{◌≡◌, ◌≤◌, ◌<◌, ◌+◌, ◌∙◌, ℕ, Bool, true, false, ◌&&◌, if◌then◌else◌, nat_lt, List, [], ◌∷◌}
-use Rattle.std.proofs.Common.{length, Option, Some, None, is_some, refl, sym, ap, subst, arith}
-use Rattle.std.specs.Prelude.{Result, Ok, Err}
+use Rattle.std.proofs.Common.{◌≡◌, ◌≤◌, ◌<◌, ◌+◌, ◌∙◌, ℕ, Bool, true, false, ◌&&◌, nat_lt, List, [], ◌∷◌}
+use Rattle.std.proofs.Common.{length, Option, Some, None, refl, sym, ap, subst, arith}
+use Rattle.std.specs.Prelude.{Result, Ok}
 use Rattle.std.proofs.lemmas.Bool.Decides.{nat_tests}
 use Rattle.room_json.specs.Value.{Value}
 use Rattle.room_nodes.specs.declared.nodes.Body.{Body}
@@ -12,12 +12,12 @@ use Rattle.room_model.specs.Account.{Account, actor, bodies_in, clocks, last_iss
 use Rattle.room_model.specs.Account.{frame_of_ops, most_bytes}
 use Rattle.room_model.specs.Calls.{Direction, Done, UndoFault, go_back, back_at, back_entry, entry_of, entry_bodies}
 use Rattle.room_model.specs.Calls.{entry_presence, entry_names, entry_reversal, went_back, tree_or_bare}
-use Rattle.room_model.specs.Edits.{Clocks, Made, EditFault, ClocksSpent, spent, clocked, made}
+use Rattle.room_model.specs.Edits.{Clocks, Made, spent, clocked, made}
 use Rattle.room_model.specs.Notices.{Notice, notices_of_all}
 use Rattle.room_props.specs.Making.{nodes_made}
 use Rattle.room_editor.specs.declared.faults.UndoFault.{UndoFault as Fault}
 use Rattle.room_editor.specs.declared.faults.UndoFault.TheVariants as fault
-use Rattle.room_editor.specs.Editor.{Outcome, WentBack, done_if}
+use Rattle.room_editor.specs.Editor.{WentBack, done_if}
 use Rattle.room_editor.specs.Faults.{IsUndoFault}
 use Rattle.room_editor.specs.Going.{FitsIn, IsOpsFault, entry_size, returned}
 use Rattle.room_editor.specs.Sizes.{bytes_of, frame_bytes}

@@ -1,13 +1,13 @@
 -- What an update makes of an account, by what it makes of the overlay.
-use Rattle.std.proofs.Common.{◌≡◌, ◌+◌, ◌==◌, ◌++◌, ◌∙◌, ℕ, Bool, true, false, ◌||◌, ◌&&◌, not, if◌then◌else◌, List, [], ◌∷◌}
-use Rattle.std.proofs.Common.{Option, Some, None, IfOk, OnOk, refl, sym, ap, subst}
+use Rattle.std.proofs.Common.{◌≡◌, ◌+◌, ◌==◌, ◌++◌, ◌∙◌, ℕ, Bool, true, false, ◌||◌, ◌&&◌, not, if◌then◌else◌, List, []}
+use Rattle.std.proofs.Common.{◌∷◌}
+use Rattle.std.proofs.Common.{Option, Some, IfOk, OnOk, refl, sym, ap, subst}
 use Rattle.std.specs.Prelude.{Result, Ok, Err}
 use Rattle.room_json.specs.Value.{Value}
 use Rattle.room_items.specs.View.{view}
 use Rattle.room_nodes.specs.declared.nodes.Op.{Op}
 use Rattle.room_nodes.specs.Cells.{is_apart}
 use Rattle.room_nodes.specs.Equal.{are_first}
-use Rattle.room_nodes.specs.Shape.{Nodes}
 use Rattle.room_nodes.specs.Steps.{fold}
 use Rattle.room_log.specs.Log.{bodies_of, ops_from}
 use Rattle.room_msg.specs.declared.messages.Resume.{Resume}
@@ -16,16 +16,16 @@ use Rattle.room_model.specs.Calls.{tree_or_bare}
 use Rattle.room_model.specs.History.{History}
 use Rattle.room_model.specs.Notices.{Notice, Reset, notices_of_all}
 use Rattle.room_model.specs.Presence.{Others}
-use Rattle.room_model.specs.Receive.{FrameFault, Received, Gap, none_own, update_numbered, update_told, update_notices}
+use Rattle.room_model.specs.Receive.{Gap, none_own, update_numbered, update_told, update_notices}
 use Rattle.room_model.specs.Receive.{updated_account, told_by}
 use Rattle.room_notice.specs.Notices.{notices_in}
 use Rattle.room_notice.specs.declared.shapes.Notice.{Notice as NoticeHere}
 use Rattle.room_overlay.specs.Over as over
 use Rattle.room_overlay.specs.Over.{Over, stands_apart, updated}
-use Rattle.room_editor.specs.Editor.{Gathered, Outcome, account_of, taken}
+use Rattle.room_editor.specs.Editor.{Gathered, account_of, taken}
 use Rattle.room_editor.specs.Standing.{Stands, StandsIn}
 use Rattle.room_editor.specs.Taking.{notices_with}
-use Rattle.room_editor.proofs.Pending.{Updates, updates, bodies_pending}
+use Rattle.room_editor.proofs.Pending.{updates, bodies_pending}
 use Rattle.room_editor.proofs.Viewing.{opens, shown_is}
 
 abbrev first_or : (b c : Bool) (x y z : List Notice) → List Notice
@@ -39,16 +39,17 @@ module _ (room : List ℕ) (s : Option Resume) (node : ℕ) (me : List (List ℕ
   pending_is : (o : Over) → Stands s o g → pending (of o) ≡ over.pending o
   pending_is o st = λ i.
       all_ops (st.actor i) o.issued
-      ++ ops_from (st.actor i) (over.last_issued o + 1) (opens s (Some o) g st i)
+      ++ ops_from (st.actor i) (over.last_issued o + 1) (opens s (Some o) g h st i)
 
   after_is : (o : Over) (os : List Op) (told : ℕ) → Stands s o g
       → tree_or_bare (shown (updated_account (of o) os told o.confirmed)) ≡ over.shown (updated o os told)
   after_is o os told st =
       ap (λ bs. fold (fold o.confirmed (bodies_of os)) (all_bodies (over.updated o os told).issued ++ bs))
-      (opens s (Some o) g st)
+      (opens s (Some o) g h st)
 
   apart_is : (o : Over) (os : List Op) → Stands s o g
-      → (none_own (actor_in s) os && is_apart o.confirmed (bodies_of os) (bodies_of (pending (of o)))) ≡ stands_apart o os
+      → (none_own (actor_in s) os && is_apart o.confirmed (bodies_of os) (bodies_of (pending (of o))))
+      ≡ stands_apart o os
   apart_is o os st = λ i.
       none_own (st.actor i) os
       && is_apart o.confirmed (bodies_of os) ((ap bodies_of (pending_is o st) ∙ bodies_pending o) i)
@@ -85,17 +86,17 @@ module _ (room : List ℕ) (s : Option Resume) (node : ℕ) (me : List (List ℕ
       }))
 
   pub update_done : (x : Account) (oo : Option Over) (o p : Over) (seq : ℕ) (os : List Op) (ns : List Notice)
-      → account_of room s oo node me others unsent h g ≡ x → oo ≡ Some o → StandsIn s oo g
+      → account_of room s oo node me others unsent h g ≡ x → oo ≡ Some o → StandsIn s oo g h
       → over.update o seq os ≡ Ok p → ns ≡ notices_with o os (over.shown p)
       → taken (update_numbered x seq os) ≡ Ok (record { account = of p; notices = ns })
   update_done x oo o p seq os ns is some st to says =
-      let e = subst (λ (q : Option Over). StandsIn s q g) some st in
+      let e = subst (λ (q : Option Over). StandsIn s q g h) some st in
       let same : x ≡ of o = sym is ∙ ap (λ q. account_of room s q node me others unsent h g) some in
       ap (λ (y : Account). taken (update_numbered y seq os)) same ∙ update_at o p seq os ns e to says
 
   pub update_ok : {F : Type 0} (x : Account) (oo : Option Over) (o p : Over) (seq : ℕ) (os : List Op)
       (r : Result (List NoticeHere) F) → account_of room s oo node me others unsent h g ≡ x → oo ≡ Some o
-      → StandsIn s oo g → OnOk r (over.update o seq os ≡ Ok p)
+      → StandsIn s oo g h → OnOk r (over.update o seq os ≡ Ok p)
       → IfOk r (λ ns. notices_in ns ≡ notices_with o os (over.shown p))
       → IfOk r (λ ns. taken (update_numbered x seq os) ≡ Ok (record { account = of p; notices = notices_in ns }))
   update_ok x oo o p seq os (Ok ns) is some st to says =

@@ -1,5 +1,5 @@
 -- An editor: a client's account at rest, which is what lasts over its connections.
-use Rattle.std.specs.Prelude.{◌≡◌, ℕ, List, [], ◌∷◌, Option, Some, None}
+use Rattle.std.specs.Prelude.{◌≡◌, ℕ, List, [], Option, Some, None}
 use Rattle.std.specs.Prelude.{Result, Ok, Err}
 use Rattle.room_json.specs.Value.{Value}
 use Rattle.room_nodes.specs.declared.nodes.Body.{Body}

@@ -1,20 +1,17 @@
 -- An entry that goes back, change by change, and what it makes of an account.
-use Rattle.std.specs.Prelude.{◌≡◌, ◌<◌, ◌+◌, ℕ, true, false, ◌&&◌, nat_lt, List, [], ◌∷◌, ◌++◌, map, length}
-use Rattle.std.specs.Prelude.{Option, Some, None, Ok, ⊤}
+use Rattle.std.specs.Prelude.{◌≡◌, ◌+◌, ℕ, true, false, ◌&&◌, nat_lt, List, [], ◌∷◌, ◌++◌, map, length}
+use Rattle.std.specs.Prelude.{Some, None, ⊤}
 use Rattle.room_json.specs.Value.{Value, merged}
 use Rattle.room_nodes.specs.declared.nodes.Body.{Body}
-use Rattle.room_nodes.specs.declared.nodes.Op.{Op}
 use Rattle.room_nodes.specs.declared.nodes.Change.{Change}
 use Rattle.room_nodes.specs.declared.nodes.Change.TheVariants.{Op as OpChange, Presence as PresenceChange}
 use Rattle.room_nodes.specs.Reversal.{reverse}
 use Rattle.room_nodes.specs.Shape.{Nodes}
 use Rattle.room_nodes.specs.Steps.{step}
-use Rattle.room_log.specs.Log.{bodies_of, ops_from}
-use Rattle.room_model.specs.Account.{Account, actor, last_issued, is_some_list, size_of, frame_of_ops, most_bytes, shown}
-use Rattle.room_model.specs.Calls.{Direction, Undo as GoUndo, Redo as GoRedo, gone, issues_of, op_change, tree_or_bare}
-use Rattle.room_model.specs.Calls.{entry_bodies, entry_presence, entry_names, entry_reversal, presence_size}
+use Rattle.room_log.specs.Log.{ops_from}
+use Rattle.room_model.specs.Account.{Account, actor, last_issued, is_some_list, size_of, frame_of_ops, most_bytes}
+use Rattle.room_model.specs.Calls.{Direction, Undo as GoUndo, Redo as GoRedo, gone, issues_of, op_change}
 use Rattle.room_model.specs.Edits.{spent}
-use Rattle.room_model.specs.Notices.{Notice, notices_of_all}
 use Rattle.room_model.specs.Presence.{with_names, back_of}
 use Rattle.room_editor.specs.declared.going.Way.{Way}
 use Rattle.room_editor.specs.declared.going.Way.TheVariants.{Undo, Redo}

@@ -8,6 +8,7 @@ use crate::editor::Editor;
 use crate::faults::BatchFault;
 use room_tree::Tree;
 
+#[tactic(auto, using(crate::proofs::Patches::stands))]
 impl<T: Tree> Editor<T> {
     /// Opens a batch: what is done until its end is one batch, and one entry of the history. Takes no memory.
     pub fn batch_begin(&mut self) -> Result<(), BatchFault>

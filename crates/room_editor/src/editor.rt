@@ -45,9 +45,10 @@ impl<T: Tree> Model for Editor<T> {
 
     ghost coded = { account_code };
 
-    ghost view = { λ e. account_of e.room e.session e.over e.node e.me e.others.others e.unsent.items e.past e.gathering };
+    ghost view = { λ e.
+        account_of e.room e.session e.over e.node e.me e.others.others e.unsent.items e.past e.gathering };
 
-    ghost invariant = { λ e. (e.node ≤ 9007199254740992) × StandsIn e.session e.over e.gathering };
+    ghost invariant = { λ e. (e.node ≤ 9007199254740992) × StandsIn e.session e.over e.gathering e.past };
 }
 
 #[tactic(auto, using(crate::proofs::Viewing::views))]

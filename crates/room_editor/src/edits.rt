@@ -6,7 +6,7 @@ ghost use Rattle.room_model.specs.Calls.{edit, changes_back, tree_or_bare};
 ghost use Rattle.room_model.specs.Edits.{make};
 ghost use Rattle.room_model.specs.Notices.{notices_of_all};
 ghost use Rattle.room_notice.specs.Notices.{notices_in};
-ghost use Rattle.room_props.specs.Edits.{HaveRoom, IsFaultOf, IsMade, clocks_of, edit_of, made_of};
+ghost use Rattle.room_props.specs.Edits.{HaveRoom, IsFaultOf, IsMade, clocks_of, edit_of};
 ghost use Rattle.room_editor.specs.Editor.{done};
 ghost use Rattle.room_editor.specs.Making.{made_by, put_edit, IsSizeFault};
 ghost use Rattle.room_editor.specs.Sizes.{bytes_of, frame_bytes as frame_bytes_of};
@@ -100,7 +100,8 @@ impl<T: Tree> Editor<T> {
     /// What operations change in the view.
     pub(crate) fn notices(&self, alloc: Global, ops: &[Op]) -> Result<Notices, NoMemory>
         requires { is_some self.now.confirmed ≡ true }
-        ensures { IfOk result (λ ns. notices_in ns ≡ notices_of_all (tree_or_bare (shown self.now)) (bodies_of ops.now)) }
+        ensures { IfOk result (λ ns. notices_in ns
+            ≡ notices_of_all (tree_or_bare (shown self.now)) (bodies_of ops.now)) }
     {
         match self.shown() {
             Some(t) => told(alloc, t, ops),

@@ -2,7 +2,8 @@
 ghost use Rattle.std.specs.Prelude.{◌≡◌, ◌≤◌, length, false, IfOk, OnOk, IfSome, None};
 ghost use Rattle.std.specs.List.{insert};
 ghost use Rattle.room_json.specs.View.{members_view};
-ghost use Rattle.room_model.specs.Presence.{is_among as is_among_of, kept_names, with_name, with_names as with_names_of};
+ghost use Rattle.room_model.specs.Presence.{is_among as is_among_of, kept_names, with_name};
+ghost use Rattle.room_model.specs.Presence.{with_names as with_names_of};
 
 use room_json::{Copied, Json, Members, Names, NoMemory, Text};
 use std::alloc::Global;
@@ -11,7 +12,8 @@ use std::collections::BTreeMap;
 
 /// Where a name goes among names, None where it is there.
 fn place(names: &[Text], name: &Text) -> Option<usize>
-    ensures at { IfSome result (λ i. (i ≤ length names.now) × (insert names.now i name.now ≡ with_name names.now name.now)) }
+    ensures at { IfSome result (λ i. (i ≤ length names.now)
+        × (insert names.now i name.now ≡ with_name names.now name.now)) }
     ensures there { result ≡ None → with_name names.now name.now ≡ names.now }
 {
     let mut at = 0;

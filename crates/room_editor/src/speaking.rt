@@ -7,6 +7,7 @@ ghost use Rattle.room_model.specs.Edits.{fields_most};
 ghost use Rattle.room_model.specs.Presence.{nobody, other_full, other_patched, with_names as with_names_of};
 ghost use Rattle.room_model.specs.Receive.{forgets};
 ghost use Rattle.room_editor.specs.Faults.{IsSayFault};
+ghost use Rattle.room_editor.specs.Standing.{ArePatches};
 
 use crate::editor::Editor;
 use crate::entries::patch_back;
@@ -42,12 +43,13 @@ fn exact_depth(value: &Json) -> Result<u64, NoMemory>
     Ok(levels)
 }
 
+#[tactic(auto, using(crate::proofs::Patches::stands))]
 impl<T: Tree> Editor<T> {
     /// The own presence with a patch, unless a value is too deep or the whole is too large.
     fn patched(&self, alloc: Global, patch: &Members) -> Result<Members, SayFault>
         ensures me { IfOk result (λ me. me ≡ merged self.now.me patch.now) }
-        ensures good { OnOk result ((yes : Bool)
-            → presence self.now patch.now yes ≡ Ok (patched_me self.now patch.now (back_noted self.now patch.now yes))) }
+        ensures good { OnOk result ((yes : Bool) → presence self.now patch.now yes
+            ≡ Ok (patched_me self.now patch.now (back_noted self.now patch.now yes))) }
         ensures err { IfErr result (λ f. (yes : Bool) → IsSayFault (presence self.now patch.now yes) f) }
     {
         let levels = deepest(patch)?;
@@ -65,7 +67,8 @@ impl<T: Tree> Editor<T> {
 
     /// What takes a patch back, if that is to be noted.
     fn noted(&self, alloc: Global, patch: &Members, in_history: bool) -> Result<Changes, NoMemory>
-        ensures { IfOk result (λ cs. cs ≡ back_noted self.now patch.now in_history) }
+        ensures back { IfOk result (λ cs. cs ≡ back_noted self.now patch.now in_history) }
+        ensures patches { IfOk result ArePatches }
     {
         if in_history {
             patch_back(alloc, self.me(), patch)
@@ -92,6 +95,7 @@ impl<T: Tree> Editor<T> {
     ) -> Result<(), NoMemory>
         requires me { me ≡ merged self.old.me patch.now }
         requires unsent { unsent ≡ with_names_of self.old.unsent patch.now }
+        requires patches { ArePatches back }
         ensures ok { OnOk result (self.new ≡ patched_me self.old patch.now back) }
         ensures err { OnErr result (self.new ≡ self.old) }
     {

@@ -150,8 +150,8 @@ fn load_first<T: Tree>(
 }
 
 impl<T: Tree> Editor<T> {
-    /// Is told its session: its actor and key are kept, no presence key is unsent, and the others are forgotten. Another
-    /// actor than the one that is kept is refused, with both, and nothing changes. Takes no memory.
+    /// Is told its session: its actor and key are kept, no presence key is unsent, and the others are forgotten. An
+    /// actor other than the one that is kept is refused, with both, and nothing changes. Takes no memory.
     pub fn welcome(&mut self, actor: u32, key: u64) -> Result<(), OverFault>
         ensures good { OnOk result
             (welcomed_as self.old actor key self.old.session ≡ Ok (welcomed self.old actor key)) }

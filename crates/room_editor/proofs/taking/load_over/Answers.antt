@@ -16,7 +16,8 @@ returns-clause-kept g c =
 
 pub returns-clause-notices : goal.returns-clause-notices
 returns-clause-notices g c =
-    let shows : json_of c.in_ok-view.view ≡ view (state_shows c.args.over.now c.args.last (g.T.Tree.nodes c.args.items)) =
+    let shows : json_of c.in_ok-view.view
+    ≡ view (state_shows c.args.over.now c.args.last (g.T.Tree.nodes c.args.items)) =
     search (bodies_drop, rules) in
     load_notices c.args.over.now c.load.new.self c.args.seq c.args.last (g.T.Tree.nodes c.args.items)
     (notices_in c.in_ok-notices.notices) c.last_issued.ensures.runs c.in_ok-load.ensures.ok

@@ -1,4 +1,4 @@
-use Rattle.std.proofs.Common.{rules, ◌≡◌, ◌+◌, ◌∙◌, Some, None, sym, ap, IfOk, IfErr}
+use Rattle.std.proofs.Common.{rules, ◌≡◌, ◌+◌, ◌∙◌, Some, None, sym, ap}
 use Rattle.std.specs.Option.{option_copied}
 use Rattle.room_model.specs.Account.{actor, last_issued}
 use Rattle.room_model.specs.Calls.{entry_bodies, entry_of, go_back}
@@ -13,7 +13,7 @@ returns-in_err-change-clause-fault g c =
     let x = c.args.self.now in
     let closed : x.batch ≡ None = search rules in
     let there : entry_of (way_of c.args.way) x.history ≡ Some c.in-Some.entry.now =
-    sym c.entry.ensures ∙ ap option_copied c.in-Some.is in
+    sym c.entry.ensures.entry ∙ ap option_copied c.in-Some.is in
     let fault : IsUndoFault (go_back (way_of c.args.way) x) c.in_err-change.field-0.0 =
     entry_refused (way_of c.args.way) x c.in-Some.entry.now c.in_err-change.field-0.0 closed there
     (c.in_err-change.ensures.err (way_of c.args.way)) in
@@ -30,7 +30,7 @@ returns-clause-ok g c =
     let x = c.args.self.now in
     let closed : x.batch ≡ None = search rules in
     let there : entry_of (way_of c.args.way) x.history ≡ Some c.in-Some.entry.now =
-    sym c.entry.ensures ∙ ap option_copied c.in-Some.is in
+    sym c.entry.ensures.entry ∙ ap option_copied c.in-Some.is in
     let r = c.in_ok-change.change in
     let e = c.in_ok-change.ensures in
     entry_done (way_of c.args.way) x c.perform.new.self c.in-Some.entry.now r.ops r.me r.unsent r.reversal

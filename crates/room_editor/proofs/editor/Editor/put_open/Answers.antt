@@ -1,4 +1,4 @@
-use Rattle.std.proofs.Common.{rules, ◌≡◌, ◌∙◌, true, is_some, sym, ap, subst}
+use Rattle.std.proofs.Common.{rules, ◌≡◌, ◌∙◌, true, is_some, sym, ap}
 use Rattle.room_model.specs.Account.{Account}
 use Rattle.room_editor.proofs.Placed.{put_stands}
 use Rattle.room_editor.proofs.Viewing.{batch_is_some}

@@ -1,4 +1,4 @@
-use Rattle.std.proofs.Common.{rules, ◌≡◌, ◌∙◌, [], ap}
+use Rattle.std.proofs.Common.{rules, ◌≡◌, []}
 use Rattle.room_model.specs.History.{note}
 use Rattle.room_editor.proofs.Bounds.{noted_to}
 use Rattle.room_editor.proofs.past.Past.resume.Goals as goal
