@@ -1,11 +1,12 @@
 //! A connection and its two queues.
-ghost use Rattle.std.specs.Prelude.{◌≡◌, ◌++◌, [], map, option_map, false, IfSome, OnOk};
+ghost use Rattle.std.specs.Prelude.{◌≡◌, ◌++◌, [], map, option_map, true, false, IfSome, OnOk};
 ghost use Rattle.room_msg.specs.Frame.{client_frame_in};
 ghost use Rattle.room_model.specs.World.{new_conn, with_outbound, has_inbound, has_outbound};
 ghost use Rattle.room_queues.specs.Calls.{first, rest, emptied};
 ghost use Rattle.room_queues.specs.Seen.{outbound_in, IsMail};
 
 use crate::mail::{Inbound, Mail, Outbound};
+use room_disk::Disk;
 use room_json::{Names, NoMemory, Text};
 use std::alloc::Global;
 use std::collections::VecDeque;
@@ -14,14 +15,14 @@ use std::marker::Model;
 /// A connection: the client that dialled it, if one did, what waits in both directions, and whether what the server
 /// sends still enters.
 #[derive(Drop)]
-pub struct Conn {
+pub struct Conn<D: Disk> {
     owner: Option<u64>,
     inbound: VecDeque<Inbound>,
-    outbound: VecDeque<Outbound>,
+    outbound: VecDeque<Outbound<D>>,
     listens: bool,
 }
 
-impl Model for Conn {
+impl<D: Disk> Model for Conn<D> {
     ghost use Rattle.room_model.specs.World.{Conn as Queued};
     ghost use Rattle.room_queues.specs.Codes.{conn_code};
 
@@ -37,9 +38,9 @@ impl Model for Conn {
     } };
 }
 
-impl Conn {
+impl<D: Disk> Conn<D> {
     /// A new connection, of a client or of none.
-    pub(crate) fn new(alloc: Global, owner: Option<u64>) -> Conn
+    pub(crate) fn new(alloc: Global, owner: Option<u64>) -> Conn<D>
         ensures { result ≡ new_conn owner }
     {
         Conn {
@@ -80,7 +81,7 @@ impl Conn {
     }
 
     /// What the server sends goes down behind what waits; a close empties what goes up.
-    pub(crate) fn give(&mut self, sent: Outbound) -> Result<(), NoMemory>
+    pub(crate) fn give(&mut self, sent: Outbound<D>) -> Result<(), NoMemory>
         ensures { OnOk result (self.new ≡ with_outbound self.old sent) }
     {
         let closes = sent.is_close();
@@ -108,7 +109,7 @@ impl Conn {
     pub(crate) fn take(&mut self) -> Option<Mail>
         ensures first { option_map outbound_in result ≡ first self.old.outbound }
         ensures rest { self.new ≡ record self.old { outbound = rest self.old.outbound } }
-        ensures mail { IfSome result IsMail }
+        ensures mail { D.tells ≡ true → D.stops ≡ true → IfSome result IsMail }
     {
         match self.outbound.pop_front() {
             Some(next) => Some(next.into_mail()),

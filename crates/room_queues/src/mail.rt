@@ -1,11 +1,12 @@
 //! What waits: texts that go up, and texts and closes that go down.
-ghost use Rattle.std.specs.Prelude.{◌≡◌};
+ghost use Rattle.std.specs.Prelude.{◌≡◌, true};
 ghost use Rattle.room_msg.specs.Frame.{client_frame_in};
 ghost use Rattle.room_model.specs.World.{is_close};
 ghost use Rattle.room_queues.specs.Seen.{outbound_in, IsMail};
 
+use room_disk::Disk;
 use room_json::Text;
-use std::marker::Model;
+use std::marker::{Model, PhantomData};
 
 /// A text that goes up. Contracts see what the server reads of it.
 #[derive(Drop)]
@@ -49,13 +50,16 @@ pub enum Mail {
     Close(u16, Text),
 }
 
-/// What goes down. Contracts see what a client reads of it.
+/// What goes down. Contracts see what a client reads of it. That it reads as it was meant is known where the server's disk
+/// tells what it holds: of another nothing is known that the server sends.
 #[derive(Drop)]
-pub struct Outbound {
+pub struct Outbound<D: Disk> {
     mail: Mail,
+    disk: PhantomData<D>,
 }
 
-impl Model for Outbound {
+impl<D: Disk> Model for Outbound<D> {
+    ghost use Rattle.std.specs.Prelude.{◌≡◌, true};
     ghost use Rattle.room_model.specs.Server.{Outbound as Sent};
     ghost use Rattle.room_queues.specs.Codes.{outbound_code};
     ghost use Rattle.room_queues.specs.Seen.{outbound_in, IsMail};
@@ -66,24 +70,27 @@ impl Model for Outbound {
 
     ghost view = { λ o. outbound_in o.mail };
 
-    ghost invariant = { λ o. IsMail o.mail };
+    ghost invariant = { λ o. D.tells ≡ true → D.stops ≡ true → IsMail o.mail };
 }
 
-impl Outbound {
+impl<D: Disk> Outbound<D> {
     /// What the server sends. The text of a frame is the pong, or that of one message, and is read as such.
-    pub fn new(mail: Mail) -> Outbound
-        requires { IsMail mail }
+    pub fn new(mail: Mail) -> Outbound<D>
+        requires { D.tells ≡ true → D.stops ≡ true → IsMail mail }
         ensures { result ≡ outbound_in mail }
     {
-        Outbound { mail }
+        Outbound {
+            mail,
+            disk: PhantomData,
+        }
     }
 
     /// What was put in.
     pub fn into_mail(self) -> Mail
         ensures seen { outbound_in result ≡ self }
-        ensures mail { IsMail result }
+        ensures mail { D.tells ≡ true → D.stops ≡ true → IsMail result }
     {
-        let Outbound { mail } = self;
+        let Outbound { mail, .. } = self;
         mail
     }
 

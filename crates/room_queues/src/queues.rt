@@ -1,5 +1,5 @@
 //! The connections of a world by number.
-ghost use Rattle.std.specs.Prelude.{◌≡◌, map, option_map, IfSome, OnOk};
+ghost use Rattle.std.specs.Prelude.{◌≡◌, map, option_map, true, IfSome, OnOk};
 ghost use Rattle.std.specs.Option.{option_copied};
 ghost use Rattle.std.specs.FinMap.{empty, entries, get, insert};
 ghost use Rattle.room_msg.specs.Frame.{client_frame_in};
@@ -10,6 +10,7 @@ ghost use Rattle.room_queues.specs.Seen.{outbound_in, outs_in, IsMail, AreMail};
 
 use crate::conn::Conn;
 use crate::mail::{Mail, Outbound};
+use room_disk::Disk;
 use room_json::{Names, NoMemory, Seq, Text};
 use std::alloc::Global;
 use std::collections::BTreeMap;
@@ -17,11 +18,11 @@ use std::marker::Model;
 
 /// The connections that were opened, by number. Contracts see a finite map of them.
 #[derive(Drop)]
-pub struct Queues {
-    conns: BTreeMap<u64, Conn>,
+pub struct Queues<D: Disk> {
+    conns: BTreeMap<u64, Conn<D>>,
 }
 
-impl Model for Queues {
+impl<D: Disk> Model for Queues<D> {
     ghost use Rattle.std.specs.Ordering.{nat_cmp};
     ghost use Rattle.std.specs.FinMap.{FinMap};
     ghost use Rattle.room_model.specs.World.{Conn as Queued};
@@ -36,7 +37,7 @@ impl Model for Queues {
 }
 
 #[tactic(auto, using(crate::proofs::Maps::entries_are))]
-fn least_inbound(conns: &BTreeMap<u64, Conn>) -> Option<u64>
+fn least_inbound<D: Disk>(conns: &BTreeMap<u64, Conn<D>>) -> Option<u64>
     ensures { result ≡ least has_inbound (entries (as_map conns.now.entries)) }
 {
     for (k, conn) in conns.iter() {
@@ -48,7 +49,7 @@ fn least_inbound(conns: &BTreeMap<u64, Conn>) -> Option<u64>
 }
 
 #[tactic(auto, using(crate::proofs::Maps::entries_are))]
-fn least_outbound(conns: &BTreeMap<u64, Conn>) -> Option<u64>
+fn least_outbound<D: Disk>(conns: &BTreeMap<u64, Conn<D>>) -> Option<u64>
     ensures { result ≡ least has_outbound (entries (as_map conns.now.entries)) }
 {
     for (k, conn) in conns.iter() {
@@ -59,7 +60,7 @@ fn least_outbound(conns: &BTreeMap<u64, Conn>) -> Option<u64>
     None
 }
 
-fn empty_all(conns: &mut BTreeMap<u64, Conn>)
+fn empty_all<D: Disk>(conns: &mut BTreeMap<u64, Conn<D>>)
     ensures { as_map conns.new.entries ≡ all_emptied (as_map conns.old.entries) }
 {
     conns.retain(|_, conn| {
@@ -68,8 +69,8 @@ fn empty_all(conns: &mut BTreeMap<u64, Conn>)
     });
 }
 
-fn deliver_all(queues: &mut Queues, sends: Vec<(u64, Mail)>) -> Result<(), NoMemory>
-    requires { AreMail sends.items }
+fn deliver_all<D: Disk>(queues: &mut Queues<D>, sends: Vec<(u64, Mail)>) -> Result<(), NoMemory>
+    requires { D.tells ≡ true → D.stops ≡ true → AreMail sends.items }
     ensures { OnOk result (queues.new ≡ deliver queues.old (outs_in sends.items)) }
 {
     for (k, mail) in sends {
@@ -79,9 +80,9 @@ fn deliver_all(queues: &mut Queues, sends: Vec<(u64, Mail)>) -> Result<(), NoMem
 }
 
 #[tactic(auto, using(crate::proofs::Maps::views))]
-impl Queues {
+impl<D: Disk> Queues<D> {
     /// No connections.
-    pub fn new(alloc: Global) -> Queues
+    pub fn new(alloc: Global) -> Queues<D>
         ensures { result ≡ empty }
     {
         Queues {
@@ -98,7 +99,7 @@ impl Queues {
     }
 
     /// The connection of that number.
-    pub fn conn(&self, k: u64) -> Option<&Conn>
+    pub fn conn(&self, k: u64) -> Option<&Conn<D>>
         ensures { option_copied result ≡ get self.now k }
     {
         self.conns.get(&k)
@@ -116,7 +117,7 @@ impl Queues {
     }
 
     /// What the server sends goes down behind what waits, where the connection listens; a close empties what goes up.
-    pub fn give(&mut self, k: u64, sent: Outbound) -> Result<(), NoMemory>
+    pub fn give(&mut self, k: u64, sent: Outbound<D>) -> Result<(), NoMemory>
         ensures { OnOk result (self.new ≡ give self.old k sent (get self.old k)) }
     {
         let Some(conn) = self.conns.get_mut(&k) else {
@@ -127,7 +128,7 @@ impl Queues {
 
     /// All that the server sends at once, in its order. Where memory runs out a part of it may wait.
     pub fn deliver(&mut self, sends: Seq<(u64, Mail)>) -> Result<(), NoMemory>
-        requires { AreMail sends }
+        requires { D.tells ≡ true → D.stops ≡ true → AreMail sends }
         ensures { OnOk result (self.new ≡ deliver self.old (outs_in sends)) }
     {
         deliver_all(self, sends.into_vec())
@@ -148,7 +149,7 @@ impl Queues {
     pub fn take(&mut self, k: u64) -> Option<Mail>
         ensures first { option_map outbound_in result ≡ next_outbound (get self.old k) }
         ensures rest { self.new ≡ taken self.old k (get self.old k) }
-        ensures mail { IfSome result IsMail }
+        ensures mail { D.tells ≡ true → D.stops ≡ true → IfSome result IsMail }
     {
         let Some(conn) = self.conns.get_mut(&k) else {
             return None;

@@ -33,8 +33,8 @@ use Rattle.room_laws.proofs.Slots.{step_after}
 use Rattle.room_laws.proofs.SoundLines.{step_stands, conn_line}
 use Rattle.room_laws.proofs.SoundServes.{AreSoundOuts, serve_goes, gone_is}
 use Rattle.room_laws.proofs.StateItems.{items_of_valid}
-use Rattle.room_world.specs.Reading
-use Rattle.room_world.specs.Reading.{AreFramesRead, IsOutRead, AreSendsRead, Reads, AllRead}
+use Rattle.room_moves.specs.Reading
+use Rattle.room_moves.specs.Reading.{AreFramesRead, IsOutRead, AreSendsRead, Reads, AllRead}
 use Rattle.room_reread.specs.Fits.{FitsFrames, KeepsFitting}
 use Rattle.room_reread.specs.Laws.{FitsEverywhere, ReadsEverywhere, EachLineReads}
 use Rattle.room_reread.proofs.Kept.{keeps_fitting}

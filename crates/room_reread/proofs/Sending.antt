@@ -22,7 +22,7 @@ use Rattle.room_model.specs.Receive.{Received, FrameFault}
 use Rattle.room_model.specs.Sound.{IsSound, IsSession, AreValidEvents}
 use Rattle.room_laws.specs.Accounts.{IsValidServerMsg}
 use Rattle.room_laws.proofs.SoundSends.{AreSoundFrames, flush_sound, resend_sound, hello_sound, replies_sound}
-use Rattle.room_world.specs.Reading.{AreFramesRead}
+use Rattle.room_moves.specs.Reading.{AreFramesRead}
 use Rattle.room_reread.specs.Fits.{AreFitting, AreSized, FitsFrames}
 use Rattle.room_reread.proofs.Frames.{frame_read}
 use Rattle.room_reread.proofs.Sizes.{fetch_fits, full_fits, full_to_fits, hello_fits, patch_fits}

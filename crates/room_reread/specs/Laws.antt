@@ -13,7 +13,7 @@ use Rattle.room_model.specs.World.{account, opening}
 use Rattle.room_laws.specs.Accounts.{IsValidServerMsg}
 use Rattle.room_laws.specs.Invariant.{conn}
 use Rattle.room_laws.specs.Validity.{AreLines}
-use Rattle.room_world.specs.Reading.{IsOutRead, Reads, AllRead}
+use Rattle.room_moves.specs.Reading.{IsOutRead, Reads, AllRead}
 use Rattle.room_reread.specs.Fits.{FitsFrames}
 
 abbrev pub IsReadAgain : ServerMsg → Type 0

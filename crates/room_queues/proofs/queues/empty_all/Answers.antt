@@ -6,6 +6,6 @@ use Rattle.room_queues.proofs.Maps.{entries_are}
 use Rattle.room_queues.proofs.queues.empty_all.Goals as goal
 
 pub returns : goal.returns
-returns c =
+returns g c =
     ap as_map (map_same_pairs _ emptied _ (λ k v b w f' t. search rules) _ _ c.retain.ensures.filtered
     ∙ ap (map emptied_conn) (sym (entries_are _ c.retain.ensures.was_ordered)))

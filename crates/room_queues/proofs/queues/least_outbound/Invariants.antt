@@ -3,4 +3,4 @@ use Rattle.room_model.specs.World.{least, has_outbound}
 use Rattle.room_queues.proofs.queues.least_outbound.Given as goal
 
 abbrev pub invariant-loop-k : goal.invariant-loop-k
-invariant-loop-k l = least has_outbound l.k-iterator ≡ least has_outbound l.conns.entries
+invariant-loop-k g l = least has_outbound l.k-iterator ≡ least has_outbound l.conns.entries

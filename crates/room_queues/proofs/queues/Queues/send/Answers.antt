@@ -4,4 +4,4 @@ use Rattle.room_queues.proofs.Maps.{views}
 use Rattle.room_queues.proofs.queues.Queues.send.Goals as goal
 
 pub returns : goal.returns
-returns c = on_ok_weaker c.send.result (λ e. search (rules, views, e)) c.send.ensures
+returns g c = on_ok_weaker c.send.result (λ e. search (rules, views, e)) c.send.ensures

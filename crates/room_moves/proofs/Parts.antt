@@ -8,8 +8,8 @@ use Rattle.room_model.specs.World.{World, Conn, Host, Running, Stopped, quiet, i
 use Rattle.room_model.specs.World.{inbound_from, inbound_at, outbound_from, outbound_at, owner_takes, owner_of, drain}
 use Rattle.room_model.specs.World.{drain_once, or_quiet, then_stepped}
 use Rattle.room_queues.specs.Calls.{first, rest, sent, next_inbound, received, next_outbound, taken}
-use Rattle.room_world.specs.Parts.{with_conns, SendsOnParts, NothingInbound, StoppedReceivesNothing, ReceivesOnParts}
-use Rattle.room_world.specs.Parts.{NothingOutbound, TakesOnParts, DrainsNothing, DrainsOneByOne, DrainEnds, StepsJoin}
+use Rattle.room_moves.specs.Parts.{with_conns, SendsOnParts, NothingInbound, StoppedReceivesNothing, ReceivesOnParts}
+use Rattle.room_moves.specs.Parts.{NothingOutbound, TakesOnParts, DrainsNothing, DrainsOneByOne, DrainEnds, StepsJoin}
 
 some_none : {A : Type 0} (x : A) → Some x ≡ None → ⊥
 some_none x e = cc

@@ -1,5 +1,5 @@
 //! What follows from the definitions alone: a fuse as the model counts it, the parts of a world, and texts that wait.
-ghost use Rattle.room_world.specs.Fuses.{GoesOn, StopsThere, EarlyIsNotKept, LateIsKept};
+ghost use Rattle.room_moves.specs.Fuses.{GoesOn, StopsThere, EarlyIsNotKept, LateIsKept};
 
 /// A disk that makes so many calls goes on with what is left of its fuse, or stops at the call that it was armed for;
 /// of a commit that it stops in, the entry is kept or not.
@@ -11,9 +11,9 @@ pub fn fuses_burn()
     ensures late { LateIsKept }
 {}
 
-ghost use Rattle.room_world.specs.Parts.{SendsOnParts, NothingInbound, StoppedReceivesNothing, ReceivesOnParts};
-ghost use Rattle.room_world.specs.Parts.{NothingOutbound, TakesOnParts, DrainsNothing, DrainsOneByOne, DrainEnds};
-ghost use Rattle.room_world.specs.Parts.{StepsJoin};
+ghost use Rattle.room_moves.specs.Parts.{SendsOnParts, NothingInbound, StoppedReceivesNothing, ReceivesOnParts};
+ghost use Rattle.room_moves.specs.Parts.{NothingOutbound, TakesOnParts, DrainsNothing, DrainsOneByOne, DrainEnds};
+ghost use Rattle.room_moves.specs.Parts.{StepsJoin};
 
 /// A line of the model by the parts of a world.
 #[tactic(auto, using(crate::proofs::Parts::parts))]
@@ -30,7 +30,7 @@ pub fn parts_make_worlds()
     ensures join { StepsJoin }
 {}
 
-ghost use Rattle.room_world.specs.Reading.{FramesAreSeen, OutsAreSeen};
+ghost use Rattle.room_moves.specs.Reading.{FramesAreSeen, OutsAreSeen};
 
 /// Texts that are read as they were meant are seen so where they wait.
 #[tactic(auto, using(crate::proofs::Reading::reading))]

@@ -5,7 +5,7 @@ use Rattle.std.proofs.lemmas.Bool.Decides.{nat_tests}
 use Rattle.room_disk.specs.declared.disk.Stop.{Stop}
 use Rattle.room_disk.specs.declared.disk.Stop.TheVariants as stop
 use Rattle.room_model.specs.World.{Intact, Fires, leaves_new}
-use Rattle.room_world.specs.Fuses.{how_of, fuse_on, GoesOn, StopsThere, EarlyIsNotKept, LateIsKept}
+use Rattle.room_moves.specs.Fuses.{how_of, fuse_on, GoesOn, StopsThere, EarlyIsNotKept, LateIsKept}
 
 none_left : (armed : ℕ) (way : Stop) → armed ≡ 0 → None ≡ fuse_on armed way
 none_left zero way e = refl

@@ -5,7 +5,7 @@ use Rattle.room_msg.specs.Written.{client_text, server_text}
 use Rattle.room_model.specs.Server.{Outbound, Pong, Message, Closed}
 use Rattle.room_model.specs.World.{inbound_frame}
 use Rattle.room_queues.specs.Seen.{IsSent, outbound_of}
-use Rattle.room_world.specs.Reading.{FramesAreSeen, OutsAreSeen}
+use Rattle.room_moves.specs.Reading.{FramesAreSeen, OutsAreSeen}
 
 pub frames_seen : FramesAreSeen
 frames_seen [] h = refl

@@ -5,7 +5,7 @@ use Rattle.std.proofs.Math.Nat.{le_trans, le_of_lt}
 use Rattle.std.proofs.lemmas.Bool.{cases_lt}
 use Rattle.room_disk.specs.Model.{Reads, Images, Keeps}
 use Rattle.room_log.specs.Log.{State, Entry, after, state_after}
-use Rattle.room_world.specs.Moments.{OfFirst, OneComes, NoneComes, ComeThen, HoldsWithin}
+use Rattle.room_moves.specs.Moments.{OfFirst, OneComes, NoneComes, ComeThen, HoldsWithin}
 
 pub none_comes : NoneComes
 none_comes P s es image h = record { count = 0; within = omega arith; stands = h }
