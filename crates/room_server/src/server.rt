@@ -312,6 +312,10 @@ impl<T: Tree> Server<T> {
         ensures bound { D.tells ≡ true → D.moment disk.new ≤ D.moment disk.old + 6 }
         ensures base { self.new.store.place.base ≡ self.old.store.place.base }
         ensures broken { IsBroken (broken_by self.old) (broken_by self.new) result }
+        // Out of memory: nothing has changed, unless the disk was out of memory, which breaks the server.
+        ensures memory { IsErrOf result ServerFault.Memory → broken_by self.new ≡ None
+            → (self.new ≡ self.old) × (disk.new ≡ disk.old) }
+        ensures short { IsErrOf result ServerFault.Memory → (disk.new ≡ disk.old) ⊎ (D.may_run_out ≡ true) }
         ensures untouched { IsSome (broken_by self.old) → (self.new ≡ self.old) × (disk.new ≡ disk.old) }
         ensures spent { self.new.spent ≡ self.old.spent }
         ensures stop_fails { D.stopped disk.old ≡ false → D.stopped disk.new ≡ true → IsErr result }
