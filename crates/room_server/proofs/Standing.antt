@@ -9,7 +9,7 @@ use Rattle.room_bytes.specs.declared.entries.Format.TheVariants.{Two}
 use Rattle.room_journal.specs.Files.{Held, Holds, Says, Opens, Closed, Headless, chosen, reading, says}
 use Rattle.room_journal.specs.Rest.{Place}
 use Rattle.room_replay.specs.Files.{held_of, files_read, StandsFor}
-use Rattle.room_store.specs.Consistent.{IsBelow, AreTwo, Settled}
+use Rattle.room_store.specs.Consistent.{IsBelow, AreTwo, Settled, IsWritten, AreWritten}
 use Rattle.room_store.specs.Stored.{Stored, IsOnDisk, held_state}
 
 less : (k g : ℕ) → k < g → nat_lt k g ≡ true
@@ -78,6 +78,15 @@ standing f p s seen now st image each =
     let below = subst (λ (l : List ℕ). IsBelow p.generation (says l)) (sym there) h.below in
     let at = counts p.base p.generation f (held_of h.snapshot h.bodies None) image p.file h.other h.two is below in
     inl (ap files_read at ∙ h.state_is)
+
+-- the files of a store that isn't broken hold a room in the format that is written
+pub written_state : (s : Stored) (seen : Reads) (now : ℕ → List ℕ → Type 0) → IsOnDisk seen now s → s.broken ≡ None
+    → AreWritten s.place.base seen
+written_state s seen now on whole =
+    let p = s.place in
+    let h = (on whole).holds in
+    subst IsWritten
+    (sym (counts p.base p.generation Two (held_of h.snapshot h.bodies None) seen p.file h.other h.two h.is h.below)) tt
 
 -- a store that isn't broken, and of which no group is open
 pub holds_state : (s : Stored) (seen : Reads) (now : ℕ → List ℕ → Type 0) → IsOnDisk seen now s → s.broken ≡ None

@@ -14,7 +14,7 @@ ghost use Rattle.room_links.specs.Outs.{written};
 ghost use Rattle.room_model.specs.Server as model;
 ghost use Rattle.room_store.specs.Stored.{IsOnDisk};
 ghost use Rattle.room_store.specs.Calls.{Compacts};
-ghost use Rattle.room_store.specs.Consistent.{BeforeOr, Since, Elsewhere, IsStill};
+ghost use Rattle.room_store.specs.Consistent.{BeforeOr, Since, Elsewhere, IsStill, AreWritten};
 ghost use Rattle.room_store.specs.Faults.{IsFault, HasDiskCause as HasStoreCause};
 ghost use Rattle.room_arrivals.specs.Serving.{limits_of, listed};
 ghost use Rattle.room_server.specs.Commit.{Puts, Stops, HoldsNow};
@@ -109,6 +109,8 @@ impl<T: Tree> Server<T> {
             → OnOk result (D.moment disk.new ≡ D.moment disk.old + 2) }
         ensures still { D.tells ≡ true → IsStill (reading base (D.seen disk.old base) (D.seen disk.old (base + 1)))
             → Within D.moment D.images disk.old disk.new (D.images disk.old (D.moment disk.old)) }
+        // The next recovery makes no file.
+        ensures written { D.tells ≡ true → OnOk result (AreWritten base (D.seen disk.new)) }
         ensures fault { D.tells ≡ true → IfErr result (λ e. (e ≡ StoreFault.Disk)
             ⊎ IsFault (files base (D.seen disk.old base) (D.seen disk.old (base + 1))) e) }
         ensures stop_fails { D.stopped disk.old ≡ false → D.stopped disk.new ≡ true → IsErr result }
