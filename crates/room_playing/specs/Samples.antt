@@ -1,5 +1,5 @@
 -- Samples: what the definitions say of cases that a reader can follow.
-use Rattle.std.specs.Prelude.{◌≡◌, ◌-◌, ℕ, true, false, List, [], ◌∷◌, ◌++◌, codes, Option, Some, None}
+use Rattle.std.specs.Prelude.{◌≡◌, ℕ, true, false, List, [], ◌∷◌, codes, Some, None}
 use Rattle.room_hub.specs.declared.hub.Event.TheVariants.{Opened, Frame, Gone, Quiet, End}
 use Rattle.room_hub.specs.declared.hub.Deed.TheVariants.{Dialled}
 use Rattle.room_hub.specs.declared.hub.Happening.TheVariants.{Gave, Failed}

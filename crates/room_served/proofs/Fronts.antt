@@ -1,6 +1,6 @@
 -- First parts of what serves a room.
-use Rattle.std.proofs.Common.{◌≡◌, ℕ, Bool, true, false, cond, List, [], ◌∷◌, ◌++◌, length, refl, sym, ap, ◌∙◌, append_assoc, append-nil}
-use Rattle.room_hub.specs.declared.hub.Event.{Event}
+use Rattle.std.proofs.Common.{◌≡◌, ℕ, Bool, true, false, cond, List, [], ◌∷◌, ◌++◌, length, refl, sym, ap, ◌∙◌}
+use Rattle.std.proofs.Common.{append_assoc, append-nil}
 use Rattle.room_hub.specs.declared.hub.Event.TheVariants.{Opened, Frame, Gone, Quiet, End}
 use Rattle.room_hub.specs.declared.hub.Happening.{Happening}
 use Rattle.room_hub.specs.declared.hub.Happening.TheVariants.{Gave, Did, Failed}
@@ -14,7 +14,8 @@ use Rattle.room_served.specs.Laws.{Adds, InParts, Parts as Law}
 
 cut : (m : Serving) (hs ks : List Happening) → Serves m (hs ++ ks) → InParts m hs ks
 cut m [] ks s = record { first = tt; rest = s }
-cut m (h ∷ hs) ks s = let more = cut (Serving.after m h) hs ks s.1 in record { first = (s.0, more.first); rest = more.rest }
+cut m (h ∷ hs) ks s = let more =
+    cut (Serving.after m h) hs ks s.1 in record { first = (s.0, more.first); rest = more.rest }
 
 joined : (m : Serving) (hs ks : List Happening) → InParts m hs ks → Serves m (hs ++ ks)
 joined m [] ks p = p.rest
@@ -44,7 +45,8 @@ if_full : (m n : Serving) (b : Bool) → n.groups ≡ m.groups → Adds m.groups
 if_full m n true e = turn_adds m n e
 if_full m n false e = record { more = []; is = e ∙ sym (append-nil m.groups) }
 
-treats : (m n : Serving) (os : List (ℕ × Outbound)) (ks : List ℕ) → n.groups ≡ m.groups → Adds m.groups (Serving.treat n os ks).groups
+treats : (m n : Serving) (os : List (ℕ × Outbound)) (ks : List ℕ) → n.groups ≡ m.groups
+    → Adds m.groups (Serving.treat n os ks).groups
 treats m n (o ∷ os) ks e = record { more = []; is = e ∙ sym (append-nil m.groups) }
 treats m n [] [] e = record { more = []; is = e ∙ sym (append-nil m.groups) }
 treats m n [] (k ∷ ks) e = turn_adds m (record n { gathered = Serving.goners (k ∷ ks) }) e
@@ -64,7 +66,8 @@ step_adds m Failed = turn_adds m (record (Serving.asked m) { ending = Serving.Mi
 
 grows : (m : Serving) (hs : List Happening) → Adds m.groups (served m hs).groups
 grows m [] = same m.groups
-grows m (h ∷ hs) = then_adds m.groups (Serving.after m h).groups (served (Serving.after m h) hs).groups (step_adds m h) (grows (Serving.after m h) hs)
+grows m (h ∷ hs) = then_adds m.groups (Serving.after m h).groups (served (Serving.after m h) hs).groups (step_adds m h)
+    (grows (Serving.after m h) hs)
 
 pub parts : Law
 parts = record { cut = cut; joined = joined; goes_on = goes_on; grows = grows }

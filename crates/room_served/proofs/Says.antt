@@ -1,7 +1,8 @@
 -- What one step of the server sends: an update only with its entry, and a room state only of a session that is known
 -- or joins.
-use Rattle.std.proofs.Common.{◌≡◌, ◌+◌, ◌==◌, ◌&&◌, not, nat_le, ℕ, zero, suc, ℤ, pos, negsuc, Bool, true, false, cond, List, [], ◌∷◌, ◌++◌, length, refl, sym, ap, ◌∙◌, subst, ◌⊎◌, inl, inr}
-use Rattle.std.specs.Prelude.{⊤, Option, Some, None, Ok, Err, take as front, drop, codes, decimal}
+use Rattle.std.proofs.Common.{◌≡◌, ◌+◌, ◌==◌, ◌&&◌, not, nat_le, ℕ, suc, ℤ, pos, negsuc, Bool, true, false, cond, List}
+use Rattle.std.proofs.Common.{[], ◌∷◌, ◌++◌, length, refl, sym, ap, ◌∙◌, subst, ◌⊎◌, inl, inr}
+use Rattle.std.specs.Prelude.{⊤, Option, Some, None, Ok, Err, codes, decimal}
 use Rattle.std.specs.Ordering.{nat_cmp}
 use Rattle.std.specs.Str.{bytes_eq}
 use Rattle.std.specs.FinMap.{FinMap, get, insert, remove, entries}
@@ -94,7 +95,8 @@ plain-append : (os ps : List (ℕ × Outbound)) → ArePlain os → ArePlain ps 
 plain-append [] ps h k = k
 plain-append (o ∷ os) ps h k = (h.0, plain-append os ps h.1 k)
 
-say-append : (s : State) (e : Option Entry) (os ps : List (ℕ × Outbound)) → AllSay s e os → AllSay s e ps → AllSay s e (os ++ ps)
+say-append : (s : State) (e : Option Entry) (os ps : List (ℕ × Outbound)) → AllSay s e os → AllSay s e ps
+    → AllSay s e (os ++ ps)
 say-append s e [] ps h k = k
 say-append s e (o ∷ os) ps h k = (h.0, say-append s e os ps h.1 k)
 
@@ -104,19 +106,23 @@ each_plain : (p : Link → Bool) (m : Outbound) (es : List (ℕ × Link)) → Is
 each_plain p m [] h = tt
 each_plain p m (e ∷ es) h = by_test (p e.1) (each_plain p m es h)
   where
-    by_test : (b : Bool) → ArePlain (Server.to_each p m es) → ArePlain (cond b ((e.0, m) ∷ Server.to_each p m es) (Server.to_each p m es))
+    by_test : (b : Bool) → ArePlain (Server.to_each p m es)
+        → ArePlain (cond b ((e.0, m) ∷ Server.to_each p m es) (Server.to_each p m es))
     by_test true k = (h, k)
     by_test false k = k
 
-each_says : (s : State) (e : Option Entry) (p : Link → Bool) (m : Outbound) (ls : List (ℕ × Link)) → Says s e m → AllSay s e (Server.to_each p m ls)
+each_says : (s : State) (e : Option Entry) (p : Link → Bool) (m : Outbound) (ls : List (ℕ × Link)) → Says s e m
+    → AllSay s e (Server.to_each p m ls)
 each_says s e p m [] h = tt
 each_says s e p m (l ∷ ls) h = by_test (p l.1) (each_says s e p m ls h)
   where
-    by_test : (b : Bool) → AllSay s e (Server.to_each p m ls) → AllSay s e (cond b ((l.0, m) ∷ Server.to_each p m ls) (Server.to_each p m ls))
+    by_test : (b : Bool) → AllSay s e (Server.to_each p m ls)
+        → AllSay s e (cond b ((l.0, m) ∷ Server.to_each p m ls) (Server.to_each p m ls))
     by_test true k = (h, k)
     by_test false k = k
 
-others_plain : (ls : FinMap nat_cmp Link) (k : ℕ) (m : ServerMsg) → IsPlainMessage m → ArePlain (Server.to_others ls k m)
+others_plain : (ls : FinMap nat_cmp Link) (k : ℕ) (m : ServerMsg) → IsPlainMessage m
+    → ArePlain (Server.to_others ls k m)
 others_plain ls k m h = each_plain Server.has_session (Message m) (entries (remove ls k)) h
 
 left_plain : (ls : FinMap nat_cmp Link) (k : ℕ) (o : Option ℕ) → ArePlain (Server.left_to ls k o)
@@ -150,11 +156,13 @@ module _ (v : Server.Server) (k : ℕ) (l : Link) where
   shuts : (code : ℕ) (text : List ℕ) → SaysIn v.state (Server.shut v k l code text)
   shuts code text = (tt, plain_all v.state None _ (left_plain v.links k l.actor))
 
-  by_shut : (b : Bool) (code : ℕ) (text : List ℕ) (out : Served) → SaysIn v.state out → SaysIn v.state (cond b (Server.shut v k l code text) out)
+  by_shut : (b : Bool) (code : ℕ) (text : List ℕ) (out : Served) → SaysIn v.state out
+      → SaysIn v.state (cond b (Server.shut v k l code text) out)
   by_shut true code text out h = shuts code text
   by_shut false code text out h = h
 
-  or_shut : (b : Bool) (code : ℕ) (text : List ℕ) (out : Served) → (b ≡ true → SaysIn v.state out) → SaysIn v.state (cond b out (Server.shut v k l code text))
+  or_shut : (b : Bool) (code : ℕ) (text : List ℕ) (out : Served) → (b ≡ true → SaysIn v.state out)
+      → SaysIn v.state (cond b out (Server.shut v k l code text))
   or_shut true code text out f = f refl
   or_shut false code text out f = shuts code text
 
@@ -163,10 +171,12 @@ module _ (v : Server.Server) (k : ℕ) (l : Link) where
       let a = suc (length v.state.sessions) in
       let name = Server.name_of h.name in (
         inr (record { name = name; entry = refl }),
-        plain_all v.state (Some (Join a l.key name)) _ (others_plain (insert v.links k (Server.with_session l a d)) k (server.Joined a) tt),
+        plain_all v.state (Some (Join a l.key name)) _
+            (others_plain (insert v.links k (Server.with_session l a d)) k (server.Joined a) tt),
       )
 
-  resumes : (r : Resume) (d : Option Decision) → IsKnown v.state r.actor r.key → SaysIn v.state (Server.resumed v k l r d)
+  resumes : (r : Resume) (d : Option Decision) → IsKnown v.state r.actor r.key
+      → SaysIn v.state (Server.resumed v k l r d)
   resumes r d known =
       let ls = insert (Server.without_actor v.links r.actor) k (Server.with_session l r.actor d) in
       say-append v.state None (Server.to_each (Server.holds r.actor) Server.elsewhere (entries v.links)) _
@@ -177,7 +187,8 @@ module _ (v : Server.Server) (k : ℕ) (l : Link) where
   Greeted None = ⊤
   Greeted (Some r) = IsKnown v.state r.actor r.key
 
-  admitted_says : (h : Hello) (o : Option Resume) (d : Option Decision) → Greeted o → SaysIn v.state (Server.admitted v k l h o d)
+  admitted_says : (h : Hello) (o : Option Resume) (d : Option Decision) → Greeted o
+      → SaysIn v.state (Server.admitted v k l h o d)
   admitted_says h None d g = joins h d
   admitted_says h (Some r) d g = resumes r d g
 
@@ -196,27 +207,38 @@ module _ (v : Server.Server) (k : ℕ) (l : Link) where
       left false b e = e
 
   key_says : (h : Hello) (r : Resume) (o : Option Session) → h.resume ≡ Some r → session_of v.state.sessions r.actor ≡ o
-      → SaysIn v.state (cond (Server.has_key r.key o) (Server.admit v k l h (Server.decision_of v h v.access)) (Server.shut v k l 4401 (codes "bad resume")))
+      → SaysIn v.state (cond (Server.has_key r.key o) (Server.admit v k l h (Server.decision_of v h v.access))
+      (Server.shut v k l 4401 (codes "bad resume")))
   key_says h r None e known = shuts 4401 (codes "bad resume")
-  key_says h r (Some x) e known = or_shut ((x.key == r.key) && not (r.key == 0)) 4401 (codes "bad resume") (Server.admit v k l h (Server.decision_of v h v.access))
-      (λ same. admit_says h (Server.decision_of v h v.access) (subst Greeted (sym e) (record { session = x; known = known; same = key_is r.key x same })))
+  key_says h r (Some x) e known =
+      or_shut ((x.key == r.key) && not (r.key == 0)) 4401 (codes "bad resume")
+      (Server.admit v k l h (Server.decision_of v h v.access))
+      (λ same. admit_says h (Server.decision_of v h v.access)
+      (subst Greeted (sym e) (record { session = x; known = known; same = key_is r.key x same })))
 
   greet_says : (h : Hello) (o : Option Resume) → h.resume ≡ o → SaysIn v.state (Server.greet v k l h o)
-  greet_says h None e = by_shut (nat_le v.limits.sessions (length v.state.sessions)) 4406 (codes "sessions full " ++ decimal (length v.state.sessions)) (Server.admit v k l h (Server.decision_of v h v.access))
+  greet_says h None e =
+      by_shut (nat_le v.limits.sessions (length v.state.sessions)) 4406
+      (codes "sessions full " ++ decimal (length v.state.sessions))
+      (Server.admit v k l h (Server.decision_of v h v.access))
       (admit_says h (Server.decision_of v h v.access) (subst Greeted (sym e) tt))
   greet_says h (Some r) e = key_says h r (session_of v.state.sessions r.actor) e refl
 
   hello_says : (o : Option Hello) → SaysIn v.state (Server.hello v k l o)
   hello_says None = shuts 4400 (codes "bad frame " ++ Server.reason_text reason.Hello)
-  hello_says (Some h) = or_shut (bytes_eq h.room v.room) 4400 (codes "bad frame " ++ Server.reason_text reason.Room) (Server.greet v k l h h.resume) (λ e. greet_says h h.resume refl)
+  hello_says (Some h) =
+      or_shut (bytes_eq h.room v.room) 4400 (codes "bad frame " ++ Server.reason_text reason.Room)
+      (Server.greet v k l h h.resume) (λ e. greet_says h h.resume refl)
 
 -- the messages of a session's frame
 
 module _ (k a : ℕ) where
-  presence_plain : (v : Server.Server) (target : Option ℤ) (patch : List (List ℕ × Value)) → ArePlain (Server.presence_sends v k a target patch)
+  presence_plain : (v : Server.Server) (target : Option ℤ) (patch : List (List ℕ × Value))
+      → ArePlain (Server.presence_sends v k a target patch)
   presence_plain v None patch = others_plain v.links k (server.Presence a None patch) tt
   presence_plain v (Some (negsuc n)) patch = others_plain v.links k (server.Presence a (Some (negsuc n)) patch) tt
-  presence_plain v (Some (pos b)) patch = each_plain (Server.holds b) (Message (server.Presence a (Some (pos b)) patch)) (entries v.links) tt
+  presence_plain v (Some (pos b)) patch =
+      each_plain (Server.holds b) (Message (server.Presence a (Some (pos b)) patch)) (entries v.links) tt
 
   fetched_state : (v : Server.Server) (o : Option Link) → (Server.fetched_at v k o).state ≡ v.state
   fetched_state v None = refl
@@ -224,8 +246,10 @@ module _ (k a : ℕ) where
 
   acts_quiet : (v : Server.Server) (m : ClientMsg) → IsQuiet v (Server.acts v k a None m)
   acts_quiet v (client.Hello h) = record { plain = tt; none = refl; state = refl }
-  acts_quiet v (client.Presence target patch) = record { plain = presence_plain v target patch; none = refl; state = refl }
-  acts_quiet v (client.Broadcast e) = record { plain = others_plain v.links k (server.Broadcast a e) tt; none = refl; state = refl }
+  acts_quiet v (client.Presence target patch) =
+      record { plain = presence_plain v target patch; none = refl; state = refl }
+  acts_quiet v (client.Broadcast e) =
+      record { plain = others_plain v.links k (server.Broadcast a e) tt; none = refl; state = refl }
   acts_quiet v client.Fetch = record {
     plain = parts_plain k v.state.count (last_of v.state.sessions a) (Server.parts_of (items_of v.state.tree));
     none = refl;
@@ -244,7 +268,8 @@ module _ (k a : ℕ) where
   or_none None e i = i
   or_none (Some d) e i = refl
 
-  then_quiet : (s : State) (v : Server.Server) (x y : Served) → SaysIn s x → IsQuiet v y → SaysIn s (Server.then_served x y)
+  then_quiet : (s : State) (v : Server.Server) (x y : Served) → SaysIn s x → IsQuiet v y
+      → SaysIn s (Server.then_served x y)
   then_quiet s v x y h q =
       subst (λ e. AllSay s e (x.outs ++ y.outs)) (sym (or_none x.entry y.entry q.none))
       (say-append s x.entry x.outs y.outs h (plain_all s x.entry y.outs q.plain))
@@ -260,26 +285,38 @@ module _ (k a : ℕ) where
   talks s x [] h = h
   talks s x (m ∷ ms) h =
       let next = Server.then_served x (Server.acts x.server k a None m) in
-      subst (λ o. SaysIn s (act_from next k a o ms)) (sym (none_after m)) (talks s next ms (then_quiet s x.server x (Server.acts x.server k a None m) h (acts_quiet x.server m)))
+      subst (λ o. SaysIn s (act_from next k a o ms)) (sym (none_after m))
+      (talks s next ms (then_quiet s x.server x (Server.acts x.server k a None m) h (acts_quiet x.server m)))
 
-  commits : (v : Server.Server) (x : Served) (u : Update) → IsQuiet v x → SaysIn v.state (Server.then_served x (Server.commit x.server u))
+  commits : (v : Server.Server) (x : Served) (u : Update) → IsQuiet v x
+      → SaysIn v.state (Server.then_served x (Server.commit x.server u))
   commits v x u q =
       let sent = Message (server.Update (x.server.state.count + 1) (ops_of u)) in
-      let said : Says v.state (Some (Updated u)) sent = (u, record { entry = refl; number = ap (λ (s : State). s.count + 1) q.state }, refl) in
-      subst (λ e. AllSay v.state e (x.outs ++ Server.to_each Server.has_fetched sent (entries x.server.links))) (sym (ap (λ d. Server.or_entry d (Some (Updated u))) q.none))
-      (say-append v.state (Some (Updated u)) x.outs _ (plain_all v.state (Some (Updated u)) x.outs q.plain) (each_says v.state (Some (Updated u)) Server.has_fetched sent (entries x.server.links) said))
+      let said : Says v.state (Some (Updated u)) sent =
+      (u, record { entry = refl; number = ap (λ (s : State). s.count + 1) q.state }, refl) in
+      subst (λ e. AllSay v.state e (x.outs ++ Server.to_each Server.has_fetched sent (entries x.server.links)))
+      (sym (ap (λ d. Server.or_entry d (Some (Updated u))) q.none))
+      (say-append v.state (Some (Updated u)) x.outs _ (plain_all v.state (Some (Updated u)) x.outs q.plain)
+      (each_says v.state (Some (Updated u)) Server.has_fetched sent (entries x.server.links) said))
 
-  waits : (v : Server.Server) (u : Update) (x : Served) (ms : List ClientMsg) → IsQuiet v x → SaysIn v.state (act_from x k a (Some u) ms)
+  waits : (v : Server.Server) (u : Update) (x : Served) (ms : List ClientMsg) → IsQuiet v x
+      → SaysIn v.state (act_from x k a (Some u) ms)
   waits v u x [] q = quiet_says v x q
-  waits v u x (client.Update os ∷ ms) q = talks v.state (Server.then_served x (Server.commit x.server u)) ms (commits v x u q)
+  waits v u x (client.Update os ∷ ms) q =
+      talks v.state (Server.then_served x (Server.commit x.server u)) ms (commits v x u q)
   waits v u x (client.Hello h ∷ ms) q =
-      waits v u (Server.then_served x (Server.acts x.server k a None (client.Hello h))) ms (still v x (Server.acts x.server k a None (client.Hello h)) q (acts_quiet x.server (client.Hello h)))
+      waits v u (Server.then_served x (Server.acts x.server k a None (client.Hello h))) ms
+      (still v x (Server.acts x.server k a None (client.Hello h)) q (acts_quiet x.server (client.Hello h)))
   waits v u x (client.Presence target patch ∷ ms) q =
-      waits v u (Server.then_served x (Server.acts x.server k a None (client.Presence target patch))) ms (still v x (Server.acts x.server k a None (client.Presence target patch)) q (acts_quiet x.server (client.Presence target patch)))
+      waits v u (Server.then_served x (Server.acts x.server k a None (client.Presence target patch))) ms
+      (still v x (Server.acts x.server k a None (client.Presence target patch)) q
+      (acts_quiet x.server (client.Presence target patch)))
   waits v u x (client.Broadcast e ∷ ms) q =
-      waits v u (Server.then_served x (Server.acts x.server k a None (client.Broadcast e))) ms (still v x (Server.acts x.server k a None (client.Broadcast e)) q (acts_quiet x.server (client.Broadcast e)))
+      waits v u (Server.then_served x (Server.acts x.server k a None (client.Broadcast e))) ms
+      (still v x (Server.acts x.server k a None (client.Broadcast e)) q (acts_quiet x.server (client.Broadcast e)))
   waits v u x (client.Fetch ∷ ms) q =
-      waits v u (Server.then_served x (Server.acts x.server k a None client.Fetch)) ms (still v x (Server.acts x.server k a None client.Fetch) q (acts_quiet x.server client.Fetch))
+      waits v u (Server.then_served x (Server.acts x.server k a None client.Fetch)) ms
+      (still v x (Server.acts x.server k a None client.Fetch) q (acts_quiet x.server client.Fetch))
 
 module _ (v : Server.Server) (k : ℕ) where
   nothing : IsQuiet v (Server.nothing v)
@@ -289,18 +326,23 @@ module _ (v : Server.Server) (k : ℕ) where
     taken_says : (t : Taken) → SaysIn v.state (taken_from v k l a ms t)
     taken_says Nothing = talks k a v.state (Server.nothing v) ms tt
     taken_says (Gap expected got) = shuts v k l 4402 (Server.expected_got (codes "clock gap") expected got)
-    taken_says (Takes u) = by_shut v k l (nat_le v.limits.updates v.state.count) 4406 (codes "room full " ++ decimal v.state.count) (act_from (Server.nothing v) k a (Some u) ms) (waits k a v u (Server.nothing v) ms nothing)
+    taken_says (Takes u) =
+        by_shut v k l (nat_le v.limits.updates v.state.count) 4406 (codes "room full " ++ decimal v.state.count)
+        (act_from (Server.nothing v) k a (Some u) ms) (waits k a v u (Server.nothing v) ms nothing)
 
     owned_says : (o : Option ℕ) → SaysIn v.state (Server.owned v k l a ms o)
     owned_says (Some got) = shuts v k l 4404 (Server.expected_got (codes "foreign actor") a got)
     owned_says None = unless (barred l.decision ms)
       where
         unless : (bar : Option Decision) → SaysIn v.state (Server.permitted_unless v k l a ms bar)
-        unless None = subst (SaysIn v.state) (sym (taken_is v k l a ms (take v.state a (Server.all_ops_in ms)))) (taken_says (take v.state a (Server.all_ops_in ms)))
+        unless None = subst (SaysIn v.state) (sym (taken_is v k l a ms (take v.state a (Server.all_ops_in ms))))
+            (taken_says (take v.state a (Server.all_ops_in ms)))
         unless (Some bar) = shuts v k l 4403 (refusal_text bar)
 
     session_says : SaysIn v.state (Server.session_frame v k l a ms)
-    session_says = by_shut v k l (Server.has_hello ms) 4400 (codes "bad frame " ++ Server.reason_text reason.Hello) (Server.owned v k l a ms (Server.foreign_in a (Server.all_ops_in ms))) (owned_says (Server.foreign_in a (Server.all_ops_in ms)))
+    session_says = by_shut v k l (Server.has_hello ms) 4400 (codes "bad frame " ++ Server.reason_text reason.Hello)
+        (Server.owned v k l a ms (Server.foreign_in a (Server.all_ops_in ms)))
+        (owned_says (Server.foreign_in a (Server.all_ops_in ms)))
 
   messages_says : (l : Link) (ms : List ClientMsg) (o : Option ℕ) → SaysIn v.state (Server.messages v k l ms o)
   messages_says l ms None = hello_says v k l (Server.only_hello ms)

@@ -1,19 +1,19 @@
 -- The samples, by their definitions.
-use Rattle.std.proofs.Common.{◌≡◌, ◌<◌, ◌||◌, ◌==◌, nat_le, ℕ, Bool, true, false, List, [], ◌∷◌, ◌++◌, length, refl, sym, ap, ◌∙◌, subst, arith}
-use Rattle.std.specs.Prelude.{codes, Option, Some, None, Ok}
+use Rattle.std.proofs.Common.{◌≡◌, ◌<◌, ◌||◌, ◌==◌, nat_le, ℕ, Bool, true, false, List, [], ◌∷◌, ◌++◌, length, refl}
+use Rattle.std.proofs.Common.{sym, ap, subst, arith}
+use Rattle.std.specs.Prelude.{codes, Option, Some, Ok}
 use Rattle.std.specs.Fmt.{digits}
 use Rattle.std.specs.FinMap.{get}
 use Rattle.std.proofs.lemmas.Bool.Decides.{nat_tests}
-use Rattle.room_hub.specs.declared.hub.Event.TheVariants.{Frame, Quiet}
 use Rattle.room_hub.specs.declared.hub.Deed.{Deed}
 use Rattle.room_hub.specs.declared.hub.Deed.TheVariants.{Sent, Closed, Dialled}
 use Rattle.room_msg.specs.declared.messages.ClientFrame.TheVariants.{Ping}
-use Rattle.room_model.specs.Server.{Server, Link, Outbound, Pong, serve_from}
-use Rattle.room_serving.specs.Turns.{turned}
-use Rattle.room_serving.specs.Serving.{Serving, does_turn, end_lines, GoesOn, Missed, goners, is_full, tries, treat, with_lost}
+use Rattle.room_model.specs.Server.{Server, Link, Pong, serve_from}
+use Rattle.room_serving.specs.Serving.{Serving, end_lines, GoesOn, is_full, treat, with_lost}
 use Rattle.room_serving.specs.Samples.{Samples}
 
-pinged : (v : Server) (l : Link) (o : Option Link) → o ≡ Some l → (serve_from v 1 (Ok Ping) o).outs ++ [] ≡ (1, Pong) ∷ []
+pinged : (v : Server) (l : Link) (o : Option Link) → o ≡ Some l
+    → (serve_from v 1 (Ok Ping) o).outs ++ [] ≡ (1, Pong) ∷ []
 pinged v l o e = subst (λ (p : Option Link). (serve_from v 1 (Ok Ping) p).outs ++ [] ≡ (1, Pong) ∷ []) (sym e) refl
 
 is_64 : (m : Serving) → length m.gathered ≡ 64 → is_full m ≡ true

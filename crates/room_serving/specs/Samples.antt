@@ -1,13 +1,12 @@
 -- Samples: what the definitions say of cases that a reader can follow.
-use Rattle.std.specs.Prelude.{◌≡◌, ◌<◌, ℕ, true, false, List, [], ◌∷◌, ◌++◌, length, codes, Some}
+use Rattle.std.specs.Prelude.{◌≡◌, ◌<◌, true, false, [], ◌∷◌, length, codes, Some}
 use Rattle.std.specs.FinMap.{get}
-use Rattle.room_hub.specs.declared.hub.Event.{Event}
-use Rattle.room_hub.specs.declared.hub.Event.TheVariants.{Opened, Frame, Quiet, End}
+use Rattle.room_hub.specs.declared.hub.Event.TheVariants.{Frame, Quiet, End}
 use Rattle.room_hub.specs.declared.hub.Deed.TheVariants.{Sent, Closed}
-use Rattle.room_hub.specs.declared.hub.Happening.TheVariants.{Gave, Did, Failed}
+use Rattle.room_hub.specs.declared.hub.Happening.TheVariants.{Gave, Did}
 use Rattle.room_model.specs.Server.{Server, Link, Pong, Closed as Closing}
 use Rattle.room_serving.specs.Turns.{has_round, turned}
-use Rattle.room_serving.specs.Serving.{Serving, MayHappen, GoesOn, Ended, Missed, after, does_turn, deed_on, end_lines}
+use Rattle.room_serving.specs.Serving.{Serving, MayHappen, GoesOn, Ended, Missed, does_turn, deed_on, end_lines}
 use Rattle.room_serving.specs.Serving.{gives, goners, is_asking, is_full, misses, tries, with_lost}
 
 pub record Samples : Type 0 where

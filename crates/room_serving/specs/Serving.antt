@@ -5,7 +5,7 @@
 -- They are one turn (`does_turn`). What it answers is tried in order, all of it; then each connection with a loss is
 -- gone, in rising order, as a turn of its own, and what that answers is tried in the same way (`treat`).
 use Rattle.std.specs.Prelude.{◌≡◌, ⊤, ℕ, ◌-◌, ◌==◌, Bool, true, false, ◌&&◌, ◌||◌, if◌then◌else◌, nat_lt, nat_le, List}
-use Rattle.std.specs.Prelude.{[], ◌∷◌, ◌++◌, map, length, codes, decimal, Option, None}
+use Rattle.std.specs.Prelude.{[], ◌∷◌, ◌++◌, map, length, codes, decimal, Option}
 use Rattle.std.specs.Ordering.{nat_cmp}
 use Rattle.std.specs.FinMap.{empty}
 use Rattle.room_hub.specs.declared.hub.Event.{Event}
