@@ -1,0 +1,10 @@
+mod Serving
+mod Moments
+mod Firing
+mod Committing
+mod Lying
+mod Framing
+mod Compacting
+mod Recovering
+mod Written
+pub mod Keeping

@@ -1,0 +1,5 @@
+pub mod Codes
+pub mod Faults
+pub mod Seen
+pub mod Rests
+pub mod Outcomes
