@@ -1,0 +1,9 @@
+pub mod Asking
+pub mod Codes
+pub mod Refusals
+pub mod Slots
+pub mod Taking
+pub use Rattle.room_model.specs.World
+pub use Rattle.room_model.specs.Lines
+pub use Rattle.room_model.specs.Calls
+pub use Rattle.room_msg.specs.Written
