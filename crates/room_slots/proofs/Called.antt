@@ -27,7 +27,8 @@ use Rattle.room_editor.specs.declared.faults.SayFault.{SayFault}
 use Rattle.room_editor.specs.declared.faults.SayFault.TheVariants as say
 use Rattle.room_slots.specs.Refusals.{TellsBatch, TellsEdit, TellsSaying, TellsUndo}
 use Rattle.room_slots.specs.Slots.{Acts, Calls, Clients, as_map, kept, line_in}
-use Rattle.room_slots.proofs.Maps.{at, insert_there, looked, put_view}
+use Rattle.room_queues.proofs.Maps.{at, looked, put_view}
+use Rattle.room_slots.proofs.Maps.{insert_there}
 
 -- a refused call
 

@@ -19,6 +19,7 @@ use Rattle.room_model.specs.Receive.{Received, Refusal, frame}
 use Rattle.room_model.specs.Server.{Outbound, Pong, Message, Closed}
 use Rattle.room_model.specs.World.{Slot, Stepped, World, slot, slot_in, new_slot, with_slot, send_inbound, cut_present}
 use Rattle.room_model.specs.World.{inbound_frame, frame_taken, client_takes}
+use Rattle.room_moves.specs.Reading.{replies_in, replies_to}
 use Rattle.room_client.specs.Faults.{fault_of}
 use Rattle.room_client.specs.Given.{Given, IsRefused, given, given_of}
 use Rattle.room_client.specs.declared.faults.FrameFault.{FrameFault}
@@ -26,10 +27,10 @@ use Rattle.room_client.specs.declared.faults.FrameFault.TheVariants as fault
 use Rattle.room_client.specs.declared.outcome.Outcome.{Outcome}
 use Rattle.room_queues.specs.Seen.{IsMail, IsSent, frame_of, outbound_in, outbound_of}
 use Rattle.room_queues.specs.declared.mail.Mail.TheVariants.{Frame}
-use Rattle.room_slots.proofs.Maps.{at, looked, put_view}
+use Rattle.room_queues.proofs.Maps.{at, looked, put_view}
 use Rattle.room_slots.specs.Refusals.{TellsFrame}
 use Rattle.room_slots.specs.Slots.{Clients, as_map}
-use Rattle.room_slots.specs.Taking.{Hears, Takes}
+use Rattle.room_slots.specs.Taking.{Hears, Takes, sending}
 use Rattle.room_slots.specs.declared.taking.Taken.{Taken}
 use Rattle.room_slots.specs.declared.taking.Taken.TheVariants.{Heard, Lost}
 
@@ -53,11 +54,17 @@ taken_as : (w : World) (line c k : ℕ) (p : Slot) (t : List ℕ) → IsMail (Fr
 taken_as w line c k p t mail =
     taken_at w line c k p (outbound_of (server_frame_in t)) (server_frame_in t) refl mail.reads
 
--- a frame that is taken
+replies_at : (p : Slot) (o : Outbound) (r : Result ServerFrame Reason) → outbound_of r ≡ o → r ≡ Ok (frame_of o)
+    → replies_in (frame p.account r) ≡ replies_to p o
+replies_at p Pong r is reads = ap (λ q. replies_in (frame p.account q)) reads
+replies_at p (Message m) r is reads = ap (λ q. replies_in (frame p.account q)) reads
+replies_at p (Closed code t) r is reads = absurd (never_closed r code t is)
 
-abbrev replies_in : Result Received Refusal → List (List ClientMsg)
-replies_in (Err refusal) = []
-replies_in (Ok out) = out.replies
+replies_as : (p : Slot) (t : List ℕ) → IsMail (Frame t)
+    → replies_in (frame p.account (server_frame_in t)) ≡ replies_to p (outbound_in (Frame t))
+replies_as p t mail = replies_at p (outbound_of (server_frame_in t)) (server_frame_in t) refl mail.reads
+
+-- a frame that is taken
 
 given_is : {F : Type 0} (a b : Given) → ◌≡◌ {A = Result Given F} (Ok a) (Ok b) → a ≡ b
 given_is a b e = cc
@@ -89,13 +96,16 @@ pub heard : (line c k : ℕ) (p : Slot) (y : Account) (o : Outcome) (t : List �
     → lines ≡ event_lines (Some c) o.events
     → Hears p (heard_as p (given_of y o)) line c k (outbound_in (Frame t)) (Heard lines o.replies)
 heard line c k p y o t lines mail h is =
-    let r = frame p.account (server_frame_in t) in (
-      replies_in r,
-      replies_are r (given_of y o) h,
+    let r = frame p.account (server_frame_in t) in
+    let frames = replies_as p t mail in (
+      replies_are r (given_of y o) h ∙ ap (map client_text) frames,
       λ w.
           let e = taken_as w line c k p t mail in
-          let a = answers w line c k p r (given_of y o) h in
-          (ap (λ (s : Stepped). s.lines) e ∙ a.0 ∙ sym is, ap (λ (s : Stepped). s.world) e ∙ a.1),
+          let a = answers w line c k p r (given_of y o) h in (
+            ap (λ (s : Stepped). s.lines) e ∙ a.0 ∙ sym is,
+            ap (λ (s : Stepped). s.world) e ∙ a.1
+            ∙ ap (λ fs. send_inbound (with_slot w c (heard_as p (given_of y o))) k (map inbound_frame fs)) frames,
+          ),
     )
 
 -- a frame that is refused
@@ -168,13 +178,13 @@ put_world w c q old new is put = ap (λ ps. record w { clients = ps }) (ap (λ p
 pub heard_by : (old new : Clients) (line c k : ℕ) (m : Outbound) (p q : Slot) (t : Taken) → slot_in (get old c) ≡ p
     → new ≡ insert old c q → Hears p q line c k m t → Takes old new line c k m t
 heard_by old new line c k m p q (Heard lines replies) there put hears = (
-  hears.0,
-  hears.1,
+  hears.0 ∙ ap (λ s. map client_text (replies_to s m)) (sym there),
   λ w is.
-      let a = hears.2 w in
+      let a = hears.1 w in
       let here : slot w c ≡ p = ap (λ ps. slot_in (get ps c)) is ∙ there in
-      let after = ap (λ v. send_inbound v k (map inbound_frame hears.0)) (put_world w c q old new is put) in
-      subst (Comes w line c k m (send_inbound (record w { clients = new }) k (map inbound_frame hears.0)) lines)
+      let after = ap (λ v. send_inbound v k (map inbound_frame (replies_to p m))) (put_world w c q old new is put)
+        ∙ ap (λ s. sending w new k (replies_to s m)) (sym there) in
+      subst (Comes w line c k m (sending w new k (replies_to (slot_in (get old c)) m)) lines)
       (sym here) (a.0, a.1 ∙ after),
 )
 heard_by old new line c k m p q (Lost text cut) there put hears = λ w is.

@@ -44,7 +44,7 @@ impl<T: Tree> Model for Slots<T> {
     ghost view = { λ s. as_map s.slots.entries };
 }
 
-#[tactic(auto, using(crate::proofs::Maps::views))]
+#[tactic(auto, using(room_queues::proofs::Maps::views))]
 impl<T: Tree> Slots<T> {
     /// No client was heard of.
     pub fn new(alloc: Global) -> Slots<T>
@@ -127,7 +127,7 @@ fn of_nobody<T: Tree>(alloc: Global, c: u64, question: Question) -> Result<Text,
 
 ghost use Rattle.room_model.specs.World.{new_slot};
 
-#[tactic(auto, using(crate::proofs::Maps::views))]
+#[tactic(auto, using(room_queues::proofs::Maps::views))]
 impl<T: Tree> Slots<T> {
     /// Makes an edit: the line, where it is refused.
     pub fn edit(
@@ -253,7 +253,7 @@ impl<T: Tree> Slots<T> {
     }
 }
 
-#[tactic(auto, using(crate::proofs::Maps::views))]
+#[tactic(auto, using(room_queues::proofs::Maps::views))]
 impl<T: Tree> Slots<T> {
     /// A new connection is the client's present one: the text of its first frame. The old one is to be cut before.
     pub fn dial(&mut self, alloc: Global, c: u64, k: u64) -> Result<Text, NoMemory>
@@ -322,8 +322,7 @@ impl<T: Tree> Slots<T> {
         k: u64,
         mail: &Mail,
     ) -> Result<Taken, NoMemory>
-        requires { IsMail mail.now }
-        ensures { IfOk result (Takes self.old self.new line c k (outbound_in mail.now)) }
+        ensures { IsMail mail.now → IfOk result (Takes self.old self.new line c k (outbound_in mail.now)) }
     {
         let Some(slot) = self.slots.get_mut(&c) else {
             let mut slot = Slot::new(alloc)?;

@@ -44,8 +44,7 @@ impl<T: Tree> Slot<T> {
         k: u64,
         mail: &Mail,
     ) -> Result<Taken, NoMemory>
-        requires { IsMail mail.now }
-        ensures { IfOk result (Hears self.old self.new line c k (outbound_in mail.now)) }
+        ensures { IsMail mail.now → IfOk result (Hears self.old self.new line c k (outbound_in mail.now)) }
     {
         match mail {
             Mail::Frame(text) => self.take_frame(alloc, line, c, k, text),
@@ -61,8 +60,8 @@ impl<T: Tree> Slot<T> {
         k: u64,
         text: &Text,
     ) -> Result<Taken, NoMemory>
-        requires { IsMail (Frame text.now) }
-        ensures { IfOk result (Hears self.old self.new line c k (outbound_in (Frame text.now))) }
+        ensures { IsMail (Frame text.now) → IfOk result
+            (Hears self.old self.new line c k (outbound_in (Frame text.now))) }
     {
         match self.client.frame(alloc, text) {
             Ok(outcome) => {

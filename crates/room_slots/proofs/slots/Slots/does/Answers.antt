@@ -2,7 +2,7 @@ use Rattle.std.proofs.Common.{◌≡◌, IfOk, IsSome, refl, rules, subst, sym}
 use Rattle.std.proofs.lemmas.Result.{IfOk-weaker}
 use Rattle.room_slots.specs.Slots.{as_map, call_of, kept}
 use Rattle.room_slots.proofs.Called.{acted_in, acted_fresh}
-use Rattle.room_slots.proofs.Maps.{views}
+use Rattle.room_queues.proofs.Maps.{views}
 use Rattle.room_slots.proofs.slots.Slots.does.Goals as goal
 
 pub returns-in_default : goal.returns-in_default
