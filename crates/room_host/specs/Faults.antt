@@ -1,5 +1,5 @@
 -- Which faults a host answers.
-use Rattle.std.specs.Prelude.{◌≡◌, ◌≤◌, ℕ, Result, IsErrOf}
+use Rattle.std.specs.Prelude.{◌≡◌, ◌≤◌, ℕ, Result, IsErrOf, ⊤}
 use Rattle.room_edge.specs.Causes.{Rose}
 use Rattle.room_disk.specs.declared.disk.DiskFault.{DiskFault}
 use Rattle.room_disk.specs.declared.disk.DiskFault.TheVariants as disk
@@ -37,6 +37,12 @@ abbrev pub IsFault : Files → HostFault → Type 0
 IsFault fs Memory = Unit {0}
 IsFault fs Disk = ⊥
 IsFault fs (Damaged f at) = fs ≡ DamagedFiles f at
+
+-- a fault that doesn't say that files are damaged
+abbrev pub IsWhole : HostFault → Type 0
+IsWhole Memory = ⊤
+IsWhole Disk = ⊤
+IsWhole (Damaged f at) = ⊥
 
 -- The counts don't fall, and `Disk` comes only where the inner disk's count rose: a stop is no fault.
 pub record HasDiskCause {D T : Type 0} (faults inner_faults : D → ℕ) (old new : D)

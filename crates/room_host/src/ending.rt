@@ -1,8 +1,9 @@
 //! A server ends where its disk stopped.
-ghost use Rattle.std.specs.Prelude.{◌≡◌, ◌≤◌, ◌⊎◌, ◌+◌, ℕ, OnOk, IsErrOf, true, false};
+ghost use Rattle.std.specs.Prelude.{◌≡◌, ◌≤◌, ◌⊎◌, ◌+◌, ℕ, IfErr, OnOk, IsErrOf, true, false};
 ghost use Rattle.room_edge.specs.Causes.{Rose};
 ghost use Rattle.room_disk.specs.Model.{Only, Within};
 ghost use Rattle.room_journal.specs.Appends.{IsClean};
+ghost use Rattle.room_host.specs.Faults.{IsWhole};
 
 use crate::fault::HostFault;
 use crate::resting::rest;
@@ -22,6 +23,7 @@ pub fn end<D: Stopping>(disk: &mut D, fault: HostFault) -> Result<(), HostFault>
     ensures clean { D.tells ≡ true → D.stops ≡ true → OnOk result (IsClean D.seen D.leaves disk.new) }
     ensures within { D.tells ≡ true → Within D.moment D.images disk.old disk.new
         (D.images disk.old (D.moment disk.old)) }
+    ensures whole { IsWhole fault → IfErr result IsWhole }
     ensures went { D.went disk.old disk.new }
     ensures later { D.faults disk.old ≤ D.faults disk.new }
     ensures inner_later { D.inner_faults disk.old ≤ D.inner_faults disk.new }

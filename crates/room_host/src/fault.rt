@@ -1,7 +1,7 @@
 //! Why a call of a host was not done.
 ghost use Rattle.std.specs.Prelude.{◌≡◌};
 ghost use Rattle.room_host.specs.declared.fault.HostFault.TheVariants.{Memory};
-ghost use Rattle.room_host.specs.Faults.{of_disk, of_server, of_store};
+ghost use Rattle.room_host.specs.Faults.{of_disk, of_server, of_store, IsWhole};
 
 use room_disk::DiskFault;
 use room_json::NoMemory;
@@ -33,7 +33,8 @@ impl From<NoMemory> for HostFault {
 
 /// What a fault of a disk becomes.
 pub fn of_disk(fault: DiskFault) -> HostFault
-    ensures { result ≡ of_disk fault }
+    ensures becomes { result ≡ of_disk fault }
+    ensures whole { IsWhole result }
 {
     match fault {
         DiskFault::Memory => HostFault::Memory,
@@ -43,7 +44,8 @@ pub fn of_disk(fault: DiskFault) -> HostFault
 
 /// What a fault of a frame or a compaction becomes. A server that runs isn't broken.
 pub fn of_server(fault: ServerFault) -> HostFault
-    ensures { result ≡ of_server fault }
+    ensures becomes { result ≡ of_server fault }
+    ensures whole { IsWhole result }
 {
     match fault {
         ServerFault::Broken(_) => HostFault::Memory,

@@ -1,5 +1,5 @@
 //! A running server hears a frame, is compacted, and stops.
-ghost use Rattle.std.specs.Prelude.{◌≡◌, ◌≤◌, ℕ, IfOk, OnOk, true, false, [], Some, None};
+ghost use Rattle.std.specs.Prelude.{◌≡◌, ◌≤◌, ℕ, IfOk, IfErr, OnOk, true, false, [], Some, None};
 ghost use Rattle.room_disk.specs.Model.{WithinWhole};
 ghost use Rattle.room_replay.specs.Files.{StandsFor};
 ghost use Rattle.room_msg.specs.Frame.{client_frame_in};
@@ -7,7 +7,7 @@ ghost use Rattle.room_model.specs.Server.{serve};
 ghost use Rattle.room_model.specs.World.{Running, entries_in};
 ghost use Rattle.room_moves.specs.Moments.{OfFirst};
 ghost use Rattle.room_server.specs.Hosted.{server_in};
-ghost use Rattle.room_host.specs.Faults.{HasDiskCause};
+ghost use Rattle.room_host.specs.Faults.{HasDiskCause, IsWhole};
 ghost use Rattle.room_host.specs.Rests.{Runs, Lies, IsKept, Rests};
 ghost use Rattle.room_host.specs.Seen.{host_in, room_files, fuse_of};
 ghost use Rattle.room_host.specs.Outcomes.{HearsAs, CompactsAs, StopsAs, server_after, server_unless};
@@ -44,6 +44,7 @@ pub fn hear<D: Stopping, T: Tree>(
     ensures images { D.tells ≡ true → WithinWhole D.moment D.images disk.old disk.new
         (OfFirst (StandsFor 0) server.old.store.state
         (entries_in (serve (server_in server.old) k (client_frame_in text.now)).entry)) }
+    ensures whole { IfErr result IsWhole }
     ensures went { D.went disk.old disk.new }
     ensures cause { HasDiskCause D.faults D.inner_faults disk.old disk.new result }
 {
@@ -74,6 +75,7 @@ pub fn compact<D: Stopping, T: Tree>(
         (host_in (server_unless r server.new) (room_files (D.seen disk.new))) r) }
     ensures images { D.tells ≡ true → WithinWhole D.moment D.images disk.old disk.new
         (StandsFor 0 server.old.store.state) }
+    ensures whole { IfErr result IsWhole }
     ensures went { D.went disk.old disk.new }
     ensures cause { HasDiskCause D.faults D.inner_faults disk.old disk.new result }
 {
@@ -97,6 +99,7 @@ pub fn stop<D: Stopping, T: Tree>(server: &Server<T>, disk: &mut D) -> Result<()
         (host_in None (room_files (D.seen disk.new))) true) }
     ensures images { D.tells ≡ true → WithinWhole D.moment D.images disk.old disk.new
         (StandsFor 0 server.now.store.state) }
+    ensures whole { IfErr result IsWhole }
     ensures went { D.went disk.old disk.new }
     ensures cause { HasDiskCause D.faults D.inner_faults disk.old disk.new result }
 {

@@ -15,7 +15,7 @@ ghost use Rattle.room_store.specs.Consistent.{BeforeOr};
 ghost use Rattle.room_moves.specs.Moments.{OfFirst};
 ghost use Rattle.room_arrivals.specs.Serving.{limits_of};
 ghost use Rattle.room_server.specs.Hosted.{Hosted, server_in};
-ghost use Rattle.room_host.specs.Faults.{HasDiskCause, IsFault};
+ghost use Rattle.room_host.specs.Faults.{HasDiskCause, IsFault, IsWhole};
 ghost use Rattle.room_host.specs.Rests.{IsKept, Rests, SameFiles};
 ghost use Rattle.room_host.specs.Seen.{host_in, room_files, fuse_of, state_in_files};
 ghost use Rattle.room_host.specs.Outcomes.{HearsAs, StartsAs, CompactsAs, StopsAs, begun, gone_in, outs_in};
@@ -174,6 +174,7 @@ impl<T: Tree> Host<T> {
             → WithinWhole D.moment D.images disk.old disk.new (StandsFor 0 h.store.state) }
         ensures idle { self.old.server ≡ None → disk.new ≡ disk.old }
         ensures limits { self.new.limits ≡ self.old.limits }
+        ensures whole { IfErr result IsWhole }
         ensures went { D.went disk.old disk.new }
         ensures cause { HasDiskCause D.faults D.inner_faults disk.old disk.new result }
     {
@@ -207,6 +208,7 @@ impl<T: Tree> Host<T> {
             (StandsFor 0 (state_in_files (room_files (D.seen disk.old)))) }
         ensures idle { IsSome self.old.server → disk.new ≡ disk.old }
         ensures limits { self.new.limits ≡ self.old.limits }
+        ensures whole { D.tells ≡ true → IfErr result IsWhole }
         ensures went { D.went disk.old disk.new }
         ensures cause { HasDiskCause D.faults D.inner_faults disk.old disk.new result }
     {
@@ -231,6 +233,7 @@ impl<T: Tree> Host<T> {
             → WithinWhole D.moment D.images disk.old disk.new (StandsFor 0 h.store.state) }
         ensures idle { self.old.server ≡ None → disk.new ≡ disk.old }
         ensures limits { self.new.limits ≡ self.old.limits }
+        ensures whole { IfErr result IsWhole }
         ensures went { D.went disk.old disk.new }
         ensures cause { HasDiskCause D.faults D.inner_faults disk.old disk.new result }
     {
@@ -274,6 +277,7 @@ impl<T: Tree> Host<T> {
             → WithinWhole D.moment D.images disk.old disk.new (OfFirst (StandsFor 0) h.store.state
             (entries_in (serve (server_in h) k (client_frame_in text.now)).entry)) }
         ensures limits { self.new.limits ≡ self.old.limits }
+        ensures whole { IfErr result IsWhole }
         ensures went { D.went disk.old disk.new }
         ensures cause { HasDiskCause D.faults D.inner_faults disk.old disk.new result }
     {

@@ -1,8 +1,8 @@
 //! A disk comes to rest: it is settled, and both files are put beyond any stop.
-ghost use Rattle.std.specs.Prelude.{◌≡◌, ◌+◌, ℕ, OnOk, true, false};
+ghost use Rattle.std.specs.Prelude.{◌≡◌, ◌+◌, ℕ, IfErr, OnOk, true, false};
 ghost use Rattle.room_disk.specs.Model.{Only, Within};
 ghost use Rattle.room_journal.specs.Appends.{IsClean};
-ghost use Rattle.room_host.specs.Faults.{HasDiskCause};
+ghost use Rattle.room_host.specs.Faults.{HasDiskCause, IsWhole};
 
 use crate::fault::{HostFault, of_disk};
 use room_disk::{Disk, Stop};
@@ -14,6 +14,7 @@ fn settle<D: Stopping>(disk: &mut D) -> Result<(), HostFault>
     ensures plain { OnOk result (D.plain disk.new) }
     ensures within { D.tells ≡ true → Within D.moment D.images disk.old disk.new
         (D.images disk.old (D.moment disk.old)) }
+    ensures whole { IfErr result IsWhole }
     ensures went { D.went disk.old disk.new }
     ensures cause { HasDiskCause D.faults D.inner_faults disk.old disk.new result }
 {
@@ -37,6 +38,7 @@ fn sync<D: Stopping>(disk: &mut D, file: u32) -> Result<(), HostFault>
         (D.images disk.old (D.moment disk.old)) }
     ensures clean { D.tells ≡ true → D.stops ≡ true → IsClean D.seen D.leaves disk.old
         → OnOk result (IsClean D.seen D.leaves disk.new) }
+    ensures whole { IfErr result IsWhole }
     ensures went { D.went disk.old disk.new }
     ensures cause { HasDiskCause D.faults D.inner_faults disk.old disk.new result }
 {
@@ -58,6 +60,7 @@ pub fn rest<D: Stopping>(disk: &mut D) -> Result<(), HostFault>
     ensures clean { D.tells ≡ true → D.stops ≡ true → OnOk result (IsClean D.seen D.leaves disk.new) }
     ensures within { D.tells ≡ true → Within D.moment D.images disk.old disk.new
         (D.images disk.old (D.moment disk.old)) }
+    ensures whole { IfErr result IsWhole }
     ensures went { D.went disk.old disk.new }
     ensures cause { HasDiskCause D.faults D.inner_faults disk.old disk.new result }
 {

@@ -12,7 +12,7 @@ ghost use Rattle.room_server.specs.Commit.{HoldsNow};
 ghost use Rattle.room_model.specs.World.{Stopped};
 ghost use Rattle.room_arrivals.specs.Serving.{limits_of};
 ghost use Rattle.room_server.specs.Hosted.{server_in, broken_by};
-ghost use Rattle.room_host.specs.Faults.{HasDiskCause, IsFault};
+ghost use Rattle.room_host.specs.Faults.{HasDiskCause, IsFault, IsWhole};
 ghost use Rattle.room_host.specs.Rests.{Runs, Lies, IsKept, Rests};
 ghost use Rattle.room_host.specs.Seen.{host_in, room_files, fuse_of, state_in_files};
 ghost use Rattle.room_host.specs.Outcomes.{StartsAs, begun, started_by};
@@ -119,6 +119,7 @@ fn begin<D: Stopping, T: Tree>(
         (host_in o (room_files (D.seen disk.new))) (started_by o)) }
     ensures images { D.tells ≡ true → WithinWhole D.moment D.images disk.old disk.new
         (StandsFor 0 (state_in_files (room_files (D.seen disk.old)))) }
+    ensures whole { D.tells ≡ true → IfErr result IsWhole }
     ensures went { D.went disk.old disk.new }
     ensures cause { HasDiskCause D.faults D.inner_faults disk.old disk.new result }
 {
@@ -152,6 +153,7 @@ pub fn start<D: Stopping, T: Tree>(
     ensures images { D.tells ≡ true → server.old ≡ None → WithinWhole D.moment D.images disk.old disk.new
         (StandsFor 0 (state_in_files (room_files (D.seen disk.old)))) }
     ensures idle { IsSome server.old → disk.new ≡ disk.old }
+    ensures whole { D.tells ≡ true → IfErr result IsWhole }
     ensures went { D.went disk.old disk.new }
     ensures cause { HasDiskCause D.faults D.inner_faults disk.old disk.new result }
 {

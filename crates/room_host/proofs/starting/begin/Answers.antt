@@ -1,14 +1,16 @@
-use Rattle.std.proofs.Common.{ap, ℕ}
+use Rattle.std.proofs.Common.{ap, rules, subst, sym, ℕ}
 use Rattle.room_store.specs.declared.fault.StoreFault.{StoreFault}
 use Rattle.room_replay.specs.Files.{StandsFor}
 use Rattle.room_store.specs.Consistent.{AreWritten}
 use Rattle.room_arrivals.specs.Serving.{limits_of}
 use Rattle.room_model.specs.World.{Running}
+use Rattle.room_host.specs.Faults.{IsWhole}
 use Rattle.room_host.specs.Seen.{room_files, state_in_files}
 use Rattle.room_host.proofs.Moments.{at_end, within, then_within}
 use Rattle.room_host.proofs.Firing.{made}
 use Rattle.room_host.proofs.Lying.{holds}
 use Rattle.room_host.proofs.Compacting.{fires_with, still_going}
+use Rattle.room_host.proofs.Recovering.{lying_whole}
 use Rattle.room_host.proofs.Recovering.{is_written, start_moments, start_written, start_runs, begun_state}
 use Rattle.room_host.proofs.starting.begin.Goals as goal
 
@@ -133,3 +135,15 @@ returns-in_ok-end-in-Err-clause-went g c =
     let law = g.met.D.Stopping in
     law.went_then c.args.disk.now c.recover.new.disk c.end.new.disk
     (law.went_by c.args.disk.now c.recover.new.disk c.recover.ensures.came) c.end.ensures.went
+
+pub returns-in_err-end-in-Err-clause-whole : goal.returns-in_err-end-in-Err-clause-whole
+returns-in_err-end-in-Err-clause-whole g c told =
+    let d = g.D.Disk in
+    let old = c.args.disk.now in
+    let here : (f : ℕ) → d.images old (d.moment old) f (d.seen old f) = λ f. g.met.D.Disk.seen_is_image old f told in
+    let k = c.requires.kept told in
+    let recovers : IsWhole c.of_store.result = subst IsWhole (sym c.of_store.ensures)
+      (lying_whole d.seen d.moment d.images old here k c.in-Err.fault (c.in-Err.ensures.fault told))
+    in
+    let fault : IsWhole c.in_err-end-in-Err.field-0.0 = c.in_err-end-in-Err.ensures.whole recovers in
+    search (fault, rules)

@@ -8,6 +8,7 @@ use Rattle.room_slots.proofs.slots.Slots.flush.Goals as goal
 pub returns-clause-ok : goal.returns-clause-ok
 returns-clause-ok g c =
     let q = c.flush.new.self in
-    on_ok_weaker c.flush.result (put_there (λ p. with_account p (flushed p.account)) c.self.inside.slots.entries _ _ c.args.c c.in-Some.slot.now q
+    on_ok_weaker c.flush.result (put_there (λ p. with_account p (flushed p.account))
+    c.self.inside.slots.entries _ _ c.args.c c.in-Some.slot.now q
     c.self.view_is (sym c.in-Some.ensures.value)
     ((c.get_mut.follows.holds q).3 (subst IsSome c.in-Some.ensures.value refl)).0) c.flush.ensures.ok
