@@ -121,7 +121,7 @@ Starts (after_high h) done left = IsUtf8 done × IsUtf8 left × (is_high_surroga
 is_eq : (x y : ℕ) → (x == y) ≡ true → x ≡ y
 is_eq x y e = grind (arith, nat_tests, e)
 
-eq_low : (x y : ℕ) → y < 128 → (x == y) ≡ true → x < 128
+pub eq_low : (x y : ℕ) → y < 128 → (x == y) ≡ true → x < 128
 eq_low x y low e = omega (arith, low, is_eq x y e)
 
 ends : (done : List ℕ) (x : ℕ) (xs s : List ℕ) → x < 128 → IsUtf8 (done ++ x ∷ xs) → Some [] ≡ Some s
@@ -130,7 +130,7 @@ ends done x xs s low h e =
     let is : [] ≡ s = cc in
     subst (λ (l : List ℕ). IsUtf8 (done ++ l)) is (subst IsUtf8 (sym (append-nil done)) (before done x xs low h))
 
-one_on : (done : List ℕ) (x : ℕ) (xs : List ℕ) → IsUtf8 (done ++ x ∷ xs) → IsUtf8 ((done ++ x ∷ []) ++ xs)
+pub one_on : (done : List ℕ) (x : ℕ) (xs : List ℕ) → IsUtf8 (done ++ x ∷ xs) → IsUtf8 ((done ++ x ∷ []) ++ xs)
 one_on done x xs h = subst IsUtf8 (sym (append_assoc done (x ∷ []) xs)) h
 
 scalar_low : (c : ℕ) → c < 128 → IsScalar c

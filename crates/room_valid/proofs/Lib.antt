@@ -1,1 +1,3 @@
 mod Contents
+mod Lexing
+mod Parsing
