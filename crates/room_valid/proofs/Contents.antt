@@ -10,6 +10,7 @@ use Rattle.std.proofs.lemmas.Str.{IsCharBoundary-before_ascii, IsCharBoundary-af
 use Rattle.json.proofs.Printed.Utf8.{IsUtf8-are_ascii}
 use Rattle.json.specs.Text.{Within, plain, after_backslash, after_u, after_high, content, code_unit, short_escape, prepend}
 use Rattle.json.specs.Text.{is_high_surrogate, is_low_surrogate, surrogate_pair}
+use Rattle.room_valid.proofs.Options.{by_cond, stepped}
 
 -- a text is cut before an ASCII byte and behind it
 
@@ -91,17 +92,7 @@ behind4 a b c d u xs k h =
     behind [] d xs k.d_low (behind [] c (d ∷ xs) k.c_low (behind [] b (c ∷ d ∷ xs) k.b_low
     (behind [] a (b ∷ c ∷ d ∷ xs) k.a_low h)))
 
--- what came of a test, of a step, and of bytes put in front
-
-by_cond : {A : Type 0} (P : Type 0) (b : Bool) (x y : Option A) (s : A) → (b ≡ true → x ≡ Some s → P)
-    → (b ≡ false → y ≡ Some s → P) → cond b x y ≡ Some s → P
-by_cond P true x y s f g e = f refl e
-by_cond P false x y s f g e = g refl e
-
-by_step : {A B : Type 0} (P : Type 0) (o : Option A) (f : A → Option B) (s : B)
-    → ((a : A) → o ≡ Some a → f a ≡ Some s → P) → option_and_then f o ≡ Some s → P
-by_step P None f s k e = cc
-by_step P (Some a) f s k e = k a refl e
+-- bytes put in front
 
 put_front : (done bytes s : List ℕ) (r : Option (List ℕ))
     → ((t : List ℕ) → r ≡ Some t → IsUtf8 ((done ++ bytes) ++ t)) → prepend bytes r ≡ Some s → IsUtf8 (done ++ s)
@@ -161,7 +152,7 @@ contents after_backslash [] done s h e = cc
 contents after_backslash (x ∷ xs) done s h e =
     by_cond (IsUtf8 (done ++ s)) (x == 117) _ _ s (λ t k.
     contents after_u xs done s (h.0, behind [] x xs (eq_low x 117 (omega arith) t) h.1) k) (λ _ k.
-    by_step (IsUtf8 (done ++ s)) (short_escape x) _ s (λ c found k.
+    stepped (IsUtf8 (done ++ s)) (short_escape x) _ s (λ c found k.
     let low = low_escape x c found in
     put_front done (c ∷ []) s (content plain xs) (λ t is.
     contents plain xs (done ++ c ∷ []) t
@@ -171,7 +162,7 @@ contents after_u (a ∷ []) done s h e = cc
 contents after_u (a ∷ b ∷ []) done s h e = cc
 contents after_u (a ∷ b ∷ c ∷ []) done s h e = cc
 contents after_u (a ∷ b ∷ c ∷ d ∷ xs) done s h e =
-    by_step (IsUtf8 (done ++ s)) (code_unit a b c d) _ s (λ u found k.
+    stepped (IsUtf8 (done ++ s)) (code_unit a b c d) _ s (λ u found k.
     let digits = unit_of a b c d u found in
     let left = behind4 a b c d u xs digits h.1 in
     by_cond (IsUtf8 (done ++ s)) (is_high_surrogate u) _ _ s (λ high k.
@@ -191,7 +182,7 @@ contents (after_high x) (y ∷ z ∷ a ∷ b ∷ c ∷ d ∷ xs) done s h e =
     let two = both (y == 92) (z == 117) t in
     let rest = behind [] z (a ∷ b ∷ c ∷ d ∷ xs) (eq_low z 117 (omega arith) two.1)
     (behind [] y (z ∷ a ∷ b ∷ c ∷ d ∷ xs) (eq_low y 92 (omega arith) two.0) h.1) in
-    by_step (IsUtf8 (done ++ s)) (code_unit a b c d) _ s (λ l found k.
+    stepped (IsUtf8 (done ++ s)) (code_unit a b c d) _ s (λ l found k.
     let digits = unit_of a b c d l found in
     let left = behind4 a b c d l xs digits rest in
     by_cond (IsUtf8 (done ++ s)) (is_low_surrogate l) _ _ s (λ low k.

@@ -1,3 +1,5 @@
 mod Contents
+pub mod Jsons
 mod Lexing
+mod Options
 mod Parsing

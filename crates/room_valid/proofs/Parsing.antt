@@ -11,6 +11,7 @@ use Rattle.json.proofs.Grammar.{closed_array}
 use Rattle.serde_json.specs.Data as read
 use Rattle.serde_json.specs.Read.{number_of, of_json, of_items, of_members, max_depth, read as read_text}
 use Rattle.room_valid.proofs.Lexing.{HaveTexts, tokens_texts}
+use Rattle.room_valid.proofs.Options.{stepped, from_map, same}
 
 -- the texts of a value
 
@@ -46,11 +47,6 @@ mapped Has f None r h e = cc
 mapped {A} {B} Has f (Some p) r h e =
     let is : (f p.0, p.1) ≡ r = cc in
     subst (λ (q : B × List Token). Has q.0 × HaveTexts q.1) is (h p refl)
-
-stepped : {A B : Type 0} (P : Type 0) (o : Option A) (f : A → Option B) (y : B)
-    → ((x : A) → o ≡ Some x → f x ≡ Some y → P) → option_and_then f o ≡ Some y → P
-stepped P None f y k e = cc
-stepped P (Some x) f y k e = k x refl e
 
 key_read : Parses KeyTexts json.read_key
 key_read [] r u e = cc
@@ -178,14 +174,6 @@ put_texts k d read.no_members u h more = (u, h, tt)
 put_texts k d (read.member l e ms) u h more =
     by_order (slice_cmp nat_cmp k l) (read.member k d (read.member l e ms)) (read.member l d ms)
     (read.member l e (read.put k d ms)) (u, h, more) (more.0, h, more.2) (more.0, more.1, put_texts k d ms u h more.2)
-
-from_map : {A B : Type 0} (Has : B → Type 0) (f : A → B) (o : Option A) (y : B) → ((x : A) → o ≡ Some x → Has (f x))
-    → option_map f o ≡ Some y → Has y
-from_map Has f None y h e = cc
-from_map Has f (Some x) y h e = let is : f x ≡ y = cc in subst Has is (h x refl)
-
-same : {A : Type 0} (Has : A → Type 0) (x y : A) → Has x → Some x ≡ Some y → Has y
-same Has x y h e = let is : x ≡ y = cc in subst Has is h
 
 mutual
   data_texts : (j : json.Json) (d : read.Data) → Texts j → of_json j ≡ Some d → DataTexts d

@@ -2,7 +2,6 @@
 ghost use Rattle.room_valid.specs.Laws.{ValuesAreJson};
 
 /// The value that a text spells is a value of the profile, at most 60 levels deep.
-#[tactic(auto, using(crate::proofs::Jsons::values_json))]
 pub fn values_are_json()
     ensures { ValuesAreJson }
 {}
