@@ -113,5 +113,15 @@ by_data (Some d) v h e = by_depth (nat_lt 60 (read.depth d)) d v (h d refl) e
 pub text_json : (t : List ℕ) (v : Value) → value_of_text t ≡ Ok v → IsJson v
 text_json t v e = by_data (data_in t) v (data_json t) e
 
+-- and the text is UTF-8
+
+utf8_by : (b : Bool) (o : Option read.Data) (v : Value) → and_then (ok_or (cond b o None) not_json) profile_in ≡ Ok v
+    → b ≡ true
+utf8_by true o v e = refl
+utf8_by false o v e = cc
+
+pub spelled_utf8 : (t : List ℕ) (v : Value) → value_of_text t ≡ Ok v → IsUtf8 t
+spelled_utf8 t v e = IsUtf8-from_is_utf8 t (utf8_by (is_utf8 t) (read_text t) v e)
+
 pub values_json : ValuesAreJson
 values_json t v e = (text_json t v e, text_depth t v e)

@@ -1,5 +1,7 @@
 mod Contents
 pub mod Jsons
 mod Lexing
+mod Lows
 mod Options
 mod Parsing
+mod Parts
