@@ -5,3 +5,5 @@ mod Lows
 mod Options
 mod Parsing
 mod Parts
+mod Entries
+mod Rooted

@@ -23,6 +23,10 @@ pub low_append : (xs ys : List ℕ) → AreLow xs → AreLow ys → AreLow (xs +
 low_append [] ys h k = k
 low_append (x ∷ xs) ys h k = (h.0, low_append xs ys h.1 k)
 
+pub low_behind : (xs ys : List ℕ) → AreLow (xs ++ ys) → AreLow ys
+low_behind [] ys h = h
+low_behind (x ∷ xs) ys h = low_behind xs ys h.1
+
 pub low_take : (n : ℕ) (xs : List ℕ) → AreLow xs → AreLow (take n xs)
 low_take zero xs h = tt
 low_take (suc n) [] h = tt

@@ -2,7 +2,7 @@
 -- are written of them are.
 use Rattle.std.proofs.Common.{◌≡◌, ◌<◌, ◌≤◌, ◌^◌, ℕ, zero, suc, Bool, true, false, cond, nat_eq, nat_lt, nat_le, List, []}
 use Rattle.std.proofs.Common.{◌∷◌, ◌++◌, take, drop, flat_map, length, Option, Some, None, option_map, Ok, Err, Result}
-use Rattle.std.proofs.Common.{IsUtf8, refl, ap, subst, arith}
+use Rattle.std.proofs.Common.{IsUtf8, refl, sym, ap, subst, arith}
 use Rattle.std.specs.Prelude.{⊤}
 use Rattle.std.specs.Int.{Width, w32, w64, byte_len, from_be_bytes}
 use Rattle.std.specs.List.{AllByRecursion}
@@ -259,3 +259,75 @@ each_field (suc n) bytes p e =
       small = omega (arith, small, rest.small);
       left = λ h. rest.left (left h);
     }) e) is) is) e) e
+
+pub fields_reads : (bytes : List ℕ) (p : List Pair × List ℕ) → fields_at bytes ≡ Some p
+    → Reads fields_bytes AreSoundMembers bytes p
+unfolding fields_at
+fields_reads bytes p e =
+    then _ (u32_at bytes) _ p (λ n is e.
+    then _ (each_at field_at n.0 n.1) _ p (λ fs are e.
+    let a = u32_reads bytes n is in
+    let each = each_field n.0 n.1 fs are in
+    let sound = sound_members (merged [] fs.0) (object_json fs.0 each.json) in
+    let small = object_depth 60 fs.0 each.small in
+    same (Reads fields_bytes AreSoundMembers bytes) (merged [] fs.0, fs.1) p
+    (record {
+      low = low_fields (merged [] fs.0) sound.json (omega (arith, small));
+      sound = λ h. sound;
+      left = λ h. each.left (a.left h);
+    }) e) e) e
+
+-- what is in a node
+
+abbrev pub Holds : List ℕ → Kind × List ℕ → Type 0
+Holds bytes p = Reads kind_bytes IsSoundKind bytes p
+
+pub object_reads : (bytes : List ℕ) (o : Option (List Pair × List ℕ)) (p : Kind × List ℕ)
+    → ((x : List Pair × List ℕ) → o ≡ Some x → Reads fields_bytes AreSoundMembers bytes x)
+    → option_map (λ (x : List Pair × List ℕ). (Object x.0, x.1)) o ≡ Some p → Holds bytes p
+unfolding kind_bytes
+object_reads bytes None p h e = cc
+object_reads bytes (Some x) p h e =
+    let fields = h x refl in
+    same (Holds bytes) (Object x.0, x.1) p
+    (record { low = fields.low; sound = fields.sound; left = fields.left }) e
+
+pub register_reads : (bytes : List ℕ) (o : Option (Value × List ℕ)) (p : Kind × List ℕ)
+    → ((x : Value × List ℕ) → o ≡ Some x → ReadsValue bytes x)
+    → option_map (λ (x : Value × List ℕ). (Register (json_in x.0), x.1)) o ≡ Some p → Holds bytes p
+unfolding kind_bytes
+register_reads bytes None p h e = cc
+register_reads bytes (Some x) p h e =
+    let v = h x refl in
+    let again = sym (json_of-json_in x.0) in
+    same (Holds bytes) (Register (json_in x.0), x.1) p
+    (record {
+      low = subst (λ (w : Value). AreLow (json_bytes w)) again (low_json x.0 v.json v.small);
+      sound = λ h. subst IsJson again v.json;
+      left = v.left;
+    }) e
+
+pub plain_reads : (k : Kind) (bytes : List ℕ) (p : Kind × List ℕ) → AreLow (kind_bytes k) → IsSoundKind k
+    → Some (k, bytes) ≡ Some p → Holds bytes p
+plain_reads k bytes p low sound e =
+    same (Holds bytes) (k, bytes) p (record { low = low; sound = λ h. sound; left = λ h. h }) e
+
+pub kind_reads : (code : ℕ) (bytes : List ℕ) (p : Kind × List ℕ) → kind_at code bytes ≡ Some p → Holds bytes p
+unfolding kind_at kind_bytes
+kind_reads code bytes p e =
+    by_cond _ (nat_eq code 2) _ _ p (λ t e. plain_reads Listed bytes p tt tt e) (λ t e.
+    by_cond _ (nat_eq code 4) _ _ p (λ t e. object_reads bytes (fields_at bytes) p (fields_reads bytes) e) (λ t e.
+    by_cond _ (nat_eq code 7) _ _ p (λ t e. plain_reads Map bytes p tt tt e) (λ t e.
+    register_reads bytes (json_at bytes) p (json_reads bytes) (kept (nat_eq code 8) _ p e).1) e) e) e
+
+-- names
+
+pub name_reads : (f : Format) (bytes : List ℕ) (p : List ℕ × List ℕ) → name_at f bytes ≡ Some p
+    → Reads (name_bytes f) IsUtf8 bytes p
+unfolding name_at name_bytes
+name_reads One bytes p e =
+    same (Reads (name_bytes One) IsUtf8 bytes) ([], bytes) p
+    (record { low = tt; sound = λ h. IsUtf8-nil; left = λ h. h }) e
+name_reads Two bytes p e =
+    let t = text_reads bytes p e in
+    record { low = t.low; sound = t.sound; left = t.left }
