@@ -7,3 +7,4 @@ mod Parsing
 mod Parts
 mod Entries
 mod Rooted
+mod Snapshots

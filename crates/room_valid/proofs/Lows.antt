@@ -5,6 +5,7 @@ use Rattle.std.proofs.Common.{◌&&◌, Ok, subst, arith}
 use Rattle.std.specs.Prelude.{⊤}
 use Rattle.std.specs.Char.{IsScalar, encode_utf8}
 use Rattle.std.specs.Int.{bytes_high_first, byte_at}
+use Rattle.std.specs.List.{AllByRecursion}
 use Rattle.std.specs.Str.{all_scalars}
 use Rattle.std.proofs.lemmas.Bool.Decides.{nat_tests}
 use Rattle.room_json.specs.Profile.{IsJson, HaveJson}
@@ -22,6 +23,10 @@ AreLow (b ∷ bs) = (b < 256) × AreLow bs
 pub low_append : (xs ys : List ℕ) → AreLow xs → AreLow ys → AreLow (xs ++ ys)
 low_append [] ys h k = k
 low_append (x ∷ xs) ys h k = (h.0, low_append xs ys h.1 k)
+
+pub low_front : (xs ys : List ℕ) → AreLow (xs ++ ys) → AreLow xs
+low_front [] ys h = tt
+low_front (x ∷ xs) ys h = (h.0, low_front xs ys h.1)
 
 pub low_behind : (xs ys : List ℕ) → AreLow (xs ++ ys) → AreLow ys
 low_behind [] ys h = h
@@ -45,6 +50,12 @@ low_bytes (x ∷ xs) h (suc i) = low_bytes xs h.1 i
 pub low_flat : {A : Type 0} (f : A → List ℕ) (xs : List A) → ((x : A) → AreLow (f x)) → AreLow (flat_map f xs)
 low_flat f [] h = tt
 low_flat f (x ∷ xs) h = low_append (f x) (flat_map f xs) (h x) (low_flat f xs h)
+
+pub each_low : {A : Type 0} (f : A → List ℕ) (xs : List A) → AreLow (flat_map f xs)
+    → AllByRecursion (λ x. AreLow (f x)) xs
+each_low f [] h = tt
+each_low f (x ∷ xs) h =
+    (low_front (f x) (flat_map f xs) h, each_low f xs (low_behind (f x) (flat_map f xs) h))
 
 -- numbers
 

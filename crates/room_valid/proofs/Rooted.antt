@@ -14,10 +14,9 @@ use Rattle.room_nodes.specs.Steps.{depth_in}
 use Rattle.room_nodes.specs.declared.nodes.Node.{Node}
 use Rattle.room_nodes.specs.declared.nodes.Kind.{Kind}
 use Rattle.room_nodes.specs.declared.nodes.Kind.TheVariants.{Object, List as Listed, Map, Register}
-use Rattle.room_items.specs.declared.row.Row.{Row}
-use Rattle.room_items.specs.Items.{row_node, may_put, put_row, put_rows, root_of}
+use Rattle.room_items.specs.Items.{root_of}
 use Rattle.room_items.proofs.MayPut.{free_of}
-use Rattle.room_snapshot.specs.Reading.{rooted}
+use Rattle.room_snapshot.specs.Reading.{may_hold, held, put_nodes, rooted}
 use Rattle.room_valid.proofs.Options.{kept, stepped, same}
 
 -- each node of a tree with its id
@@ -28,36 +27,37 @@ AllNodes Is t = (x : NodeId) (n : Node) → get t x ≡ Some n → Is x n
 abbrev pub at_depth : Node → ℕ → Node
 at_depth n d = record { parent = n.parent; key = n.key; depth = d; kind = n.kind }
 
-abbrev pub row_of : NodeId × Node → Row
-row_of e = record { id = e.0; parent = e.1.parent; key = e.1.key; kind = e.1.kind }
+abbrev put_one : Nodes → NodeId × Node → Option Nodes
+put_one t e = cond (may_hold t e) (Some (insert t e.0 (held t e))) None
 
-put_is : (u v : Nodes) (r : Row) → put_row u r ≡ Some v
-    → (may_put u r ≡ true) × (insert u r.id (row_node u r) ≡ v)
-put_is u v r e =
-    let k = kept (may_put u r) (Some (insert u r.id (row_node u r))) v e in
+put_is : (u v : Nodes) (e : NodeId × Node) → put_one u e ≡ Some v
+    → (may_hold u e ≡ true) × (insert u e.0 (held u e) ≡ v)
+put_is u v e put =
+    let k = kept (may_hold u e) (Some (insert u e.0 (held u e))) v put in
     (k.0, cc)
 
-put_all : (Is : NodeId → Node → Type 0) (u v : Nodes) (r : Row) → AllNodes Is u → Is r.id (row_node u r)
-    → put_row u r ≡ Some v → AllNodes Is v
-put_all Is u v r h new e =
-    subst (AllNodes Is) (put_is u v r e).1 (λ x n there. elim (here_or_old u r.id (row_node u r) x n there) [
-      | inl here ↦ subst (Is x) (sym here.1) (subst (λ (y : NodeId). Is y (row_node u r)) (sym here.0) new)
+put_all : (Is : NodeId → Node → Type 0) (u v : Nodes) (e : NodeId × Node) → AllNodes Is u → Is e.0 (held u e)
+    → put_one u e ≡ Some v → AllNodes Is v
+put_all Is u v e h new put =
+    subst (AllNodes Is) (put_is u v e put).1 (λ x n there. elim (here_or_old u e.0 (held u e) x n there) [
+      | inl here ↦ subst (Is x) (sym here.1) (subst (λ (y : NodeId). Is y (held u e)) (sym here.0) new)
       | inr old ↦ h x n old.1
     ])
 
 rows_all : (Is : NodeId → Node → Type 0) (es : List (NodeId × Node)) (u v : Nodes) → AllNodes Is u
-    → AllByRecursion (λ e. (d : ℕ) → Is e.0 (at_depth e.1 d)) es → put_rows u (map row_of es) ≡ Some v → AllNodes Is v
-rows_all Is [] u v h rows e = same (AllNodes Is) u v h e
-rows_all Is (x ∷ es) u v h rows e =
-    stepped _ (put_row u (row_of x)) _ v (λ w is e.
-    rows_all Is es w v (put_all Is u w (row_of x) h (rows.0 (depth_in (get u x.1.parent) + 1)) is) rows.1 e) e
+    → AllByRecursion (λ e. (d : ℕ) → Is e.0 (at_depth e.1 d)) es → put_nodes u es ≡ Some v → AllNodes Is v
+rows_all Is [] u v h rows put = same (AllNodes Is) u v h put
+rows_all Is (e ∷ es) u v h rows put =
+    stepped _ (put_one u e) _ v (λ w is put.
+    rows_all Is es w v (put_all Is u w e h (rows.0 (depth_in (get u e.1.parent) + 1)) is) rows.1 put) put
 
-rows_formed : (rs : List Row) (u v : Nodes) → IsFormed u → put_rows u rs ≡ Some v → IsFormed v
-rows_formed [] u v f e = same IsFormed u v f e
-rows_formed (r ∷ rs) u v f e =
-    stepped _ (put_row u r) _ v (λ w is e.
-    let put = put_is u w r is in
-    rows_formed rs w v (subst IsFormed put.1 (formed-insert u r.id (row_node u r) f (free_of u r put.0))) e) e
+rows_formed : (es : List (NodeId × Node)) (u v : Nodes) → IsFormed u → put_nodes u es ≡ Some v → IsFormed v
+rows_formed [] u v f put = same IsFormed u v f put
+rows_formed (e ∷ es) u v f put =
+    stepped _ (put_one u e) _ v (λ w is put.
+    let one = put_is u w e is in
+    let free = free_of u (record { id = e.0; parent = e.1.parent; key = e.1.key; kind = e.1.kind }) one.0 in
+    rows_formed es w v (subst IsFormed one.1 (formed-insert u e.0 (held u e) f free)) put) put
 
 -- the root alone
 
@@ -96,7 +96,7 @@ root_all Is kind h x n there = by (is_same x Root) refl
 -- the tree of an object with rows put under it
 
 pub rooted_formed : (kind : Kind) (es : List (NodeId × Node)) (t : Nodes) → rooted kind es ≡ Some t → IsFormed t
-rooted_formed (Object fs) es t e = rows_formed (map row_of es) (root_of (Object fs)) t (root_formed (Object fs) refl) e
+rooted_formed (Object fs) es t e = rows_formed es (root_of (Object fs)) t (root_formed (Object fs) refl) e
 rooted_formed Listed es t e = cc
 rooted_formed Map es t e = cc
 rooted_formed (Register v) es t e = cc
