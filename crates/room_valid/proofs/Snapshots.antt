@@ -133,8 +133,9 @@ rows_low : (es : List (NodeId × Node)) → AreLow (flat_map row_bytes es)
 rows_low [] h = tt
 rows_low (e ∷ es) h =
     let here = low_front (row_bytes e) (flat_map row_bytes es) h in
-    let low = (low_front (text_bytes e.1.key) (kind_bytes e.1.kind) here, low_behind (text_bytes e.1.key) (kind_bytes e.1.kind) here) in
-    (λ d. low, rows_low es (low_behind (row_bytes e) (flat_map row_bytes es) h))
+    let key = low_front (text_bytes e.1.key) (kind_bytes e.1.kind) here in
+    let kind = low_behind (text_bytes e.1.key) (kind_bytes e.1.kind) here in
+    (λ d. (key, kind), rows_low es (low_behind (row_bytes e) (flat_map row_bytes es) h))
 
 rows_sound : (es : List (NodeId × Node)) → AllByRecursion IsSoundRow es
     → AllByRecursion (λ e. (d : ℕ) → IsSoundAt e.0 (at_depth e.1 d)) es
