@@ -8,3 +8,4 @@ mod Parts
 mod Entries
 mod Rooted
 mod Snapshots
+pub mod Files

@@ -3,4 +3,4 @@
 
 mod laws;
 
-pub use laws::values_are_json;
+pub use laws::{entries_are_sound, files_are_valid, values_are_json};
