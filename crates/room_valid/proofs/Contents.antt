@@ -1,16 +1,16 @@
 -- What a string of a text holds is UTF-8, where the text is.
-use Rattle.std.proofs.Common.{◌≡◌, ◌<◌, ◌≤◌, ◌+◌, ◌*◌, ℕ, Bool, true, false, cond, ◌&&◌, ◌||◌, ◌==◌, nat_lt, nat_le}
-use Rattle.std.proofs.Common.{List, [], ◌∷◌, ◌++◌, length, take, drop, get_or, Option, Some, None, option_map}
-use Rattle.std.proofs.Common.{option_and_then, IsUtf8, encode_utf8, refl, sym, ap, ◌∙◌, subst, arith, append_assoc}
+use Rattle.std.proofs.Common.{◌≡◌, ◌<◌, ◌+◌, ℕ, Bool, true, false, cond, ◌&&◌, ◌==◌, nat_lt}
+use Rattle.std.proofs.Common.{List, [], ◌∷◌, ◌++◌, length, drop, get_or, Option, Some, None}
+use Rattle.std.proofs.Common.{IsUtf8, encode_utf8, refl, sym, ap, ◌∙◌, subst, arith, append_assoc}
 use Rattle.std.proofs.Common.{append-nil, length-append, take_at, drop_at, get_or-append-add}
 use Rattle.std.specs.Char.{digit_value, is_digit, IsScalar}
 use Rattle.std.proofs.lemmas.Bool.Decides.{nat_tests}
 use Rattle.std.proofs.lemmas.Str.{IsUtf8-append, IsUtf8-encode, IsUtf8-take, IsUtf8-drop, encode_ascii}
 use Rattle.std.proofs.lemmas.Str.{IsCharBoundary-before_ascii, IsCharBoundary-after_ascii}
-use Rattle.json.proofs.Printed.Utf8.{IsUtf8-are_ascii}
-use Rattle.json.specs.Text.{Within, plain, after_backslash, after_u, after_high, content, code_unit, short_escape, prepend}
+use Rattle.json.specs.Text.{Within, plain, after_backslash, after_u, after_high, content, code_unit, short_escape}
+use Rattle.json.specs.Text.{prepend}
 use Rattle.json.specs.Text.{is_high_surrogate, is_low_surrogate, surrogate_pair}
-use Rattle.room_valid.proofs.Options.{by_cond, stepped}
+use Rattle.room_valid.proofs.Options.{both, by_cond, stepped}
 
 -- a text is cut before an ASCII byte and behind it
 
@@ -132,10 +132,6 @@ one_low c low = subst IsUtf8 (encode_ascii c low) (IsUtf8-encode c (scalar_low c
 
 three : (done bytes xs : List ℕ) → IsUtf8 done → IsUtf8 bytes → IsUtf8 xs → IsUtf8 ((done ++ bytes) ++ xs)
 three done bytes xs h k l = IsUtf8-append (done ++ bytes) xs (IsUtf8-append done bytes h k) l
-
-both : (a b : Bool) → (a && b) ≡ true → (a ≡ true) × (b ≡ true)
-both true b e = (refl, e)
-both false b e = cc
 
 contents : (w : Within) (left done s : List ℕ) → Starts w done left → content w left ≡ Some s → IsUtf8 (done ++ s)
 unfolding content

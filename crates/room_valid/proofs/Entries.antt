@@ -1,8 +1,7 @@
 -- The entries that are read of bytes are sound.
-use Rattle.std.proofs.Common.{◌≡◌, ◌<◌, ◌^◌, ℕ, Bool, true, false, cond, nat_eq, nat_lt, List, [], ◌∷◌, ◌++◌, flat_map}
-use Rattle.std.proofs.Common.{length, Option, Some, None, refl, sym, ap, ◌∙◌, subst, arith, append-nil}
+use Rattle.std.proofs.Common.{◌≡◌, ◌<◌, ℕ, true, nat_eq, nat_lt, List, [], ◌∷◌, ◌++◌, flat_map}
+use Rattle.std.proofs.Common.{length, Some, sym, ap, subst, arith}
 use Rattle.std.specs.List.{AllByRecursion}
-use Rattle.room_ids.specs.declared.ids.NodeId.{NodeId}
 use Rattle.room_nodes.specs.Sound.{IsSoundBody, AreSoundBodies}
 use Rattle.room_nodes.specs.declared.nodes.Kind.{Kind}
 use Rattle.room_nodes.specs.declared.nodes.Kind.TheVariants.{Object, List as Listed, Map, Register}
@@ -12,18 +11,19 @@ use Rattle.room_log.specs.Log.{Entry, Join, Updated}
 use Rattle.room_log.specs.Follows.{IsSoundEntry}
 use Rattle.room_bytes.specs.Bounds.{is_written}
 use Rattle.room_bytes.specs.declared.entries.Format.{Format}
-use Rattle.room_bytes.specs.declared.entries.Format.TheVariants.{One, Two}
-use Rattle.room_bytes.specs.Reading.{◌>>=◌, u32_at, u64_at, byte_at, text_at, id_at, replaced_at, each_at, fields_at}
+use Rattle.room_bytes.specs.declared.entries.Format.TheVariants.{Two}
+use Rattle.room_bytes.specs.Reading.{u32_at, u64_at, byte_at, text_at, id_at, replaced_at, each_at, fields_at}
 use Rattle.room_bytes.specs.Reading.{kind_at, set_key_at, delete_key_at, update_at, delete_at, create_at, body_at}
-use Rattle.room_bytes.specs.Reading.{name_at, join_at, updated_at, parts_at, behind, entry_at, ended, entry_of, group_of}
+use Rattle.room_bytes.specs.Reading.{name_at, join_at, updated_at, parts_at, behind, entry_at, ended, entry_of}
+use Rattle.room_bytes.specs.Reading.{group_of}
 use Rattle.room_bytes.specs.Spelling.{u32_bytes, u64_bytes, text_bytes, id_bytes, replaced_bytes, fields_bytes}
 use Rattle.room_bytes.specs.Spelling.{kind_bytes, kind_code, name_bytes, body_bytes, entry_bytes}
-use Rattle.room_bytes.proofs.Once.{entry_is, entries_once, ended_is}
+use Rattle.room_bytes.proofs.Once.{entry_is, ended_is}
 use Rattle.room_bytes.proofs.Parts.{each_is, some_is}
 use Rattle.room_replay.specs.Follow.{AreSound}
-use Rattle.room_valid.proofs.Lows.{AreLow, low_append, low_behind, low_u32, low_u64}
+use Rattle.room_valid.proofs.Lows.{AreLow, low_append, low_behind, low_u32}
 use Rattle.room_valid.proofs.Options.{by_cond, kept, same}
-use Rattle.room_valid.proofs.Parts.{Reads, then, u32_reads, u64_reads, byte_left, text_reads, id_reads, low_id}
+use Rattle.room_valid.proofs.Parts.{Reads, then, u32_reads, u64_reads, byte_left, text_reads, id_reads}
 use Rattle.room_valid.proofs.Parts.{replaced_reads, each_reads, fields_reads, kind_reads, name_reads}
 
 -- operations
@@ -106,9 +106,9 @@ create_reads code bytes p e =
       low = (
         low_code kind.0,
         low_append (id_bytes x.0) (id_bytes parent.0 ++ (text_bytes key.0 ++ last)) a.low
-        (low_append (id_bytes parent.0) (text_bytes key.0 ++ last) b.low
-        (low_append (text_bytes key.0) last c.low
-        (low_append (replaced_bytes replaces.0) (kind_bytes kind.0) d.low k.low))),
+            (low_append (id_bytes parent.0) (text_bytes key.0 ++ last) b.low
+            (low_append (text_bytes key.0) last c.low
+            (low_append (replaced_bytes replaces.0) (kind_bytes kind.0) d.low k.low))),
       );
       sound = λ h.
           let second = a.left h in
@@ -157,7 +157,7 @@ join_reads f bytes p e =
       low = (
         omega arith,
         low_append (u32_bytes actor.0) (u64_bytes key.0 ++ name_bytes f name.0) a.low
-        (low_append (u64_bytes key.0) (name_bytes f name.0) b.low c.low),
+            (low_append (u64_bytes key.0) (name_bytes f name.0) b.low c.low),
       );
       sound = λ h. (b.sound (a.left h), c.sound (b.left (a.left h)));
       left = λ h. c.left (b.left (a.left h));
@@ -185,8 +185,8 @@ updated_reads f bytes p e =
       low = (
         omega arith,
         low_append (u32_bytes actor.0) (u64_bytes first.0 ++ (count ++ rest)) a.low
-        (low_append (u64_bytes first.0) (count ++ rest) b.low
-        (low_append count rest (low_u32 (length bodies.0)) d.low)),
+            (low_append (u64_bytes first.0) (count ++ rest) b.low
+            (low_append count rest (low_u32 (length bodies.0)) d.low)),
       );
       sound = λ h. each_sound bodies.0 (d.sound (c.left (b.left (a.left h))));
       left = λ h. d.left (c.left (b.left (a.left h)));
@@ -238,6 +238,7 @@ group_sound bytes es h =
     then _ (each_at (entry_at Two) n.0 n.1) _ es (λ x are h.
     let end = ended_is x es (kept (nat_lt 0 n.0) (ended x) es h).1 in
     let reads = each_reads (entry_at Two) (entry_bytes Two) IsSoundEntry (entry_reads Two) n.0 n.1 x are in
-    let whole = (each_is (entry_at Two) (entry_bytes Two) (λ e. is_written Two e ≡ true) (entry_is Two) n.0 n.1 x are).0 in
+    let written : Entry → Type 0 = λ e. is_written Two e ≡ true in
+    let whole = (each_is (entry_at Two) (entry_bytes Two) written (entry_is Two) n.0 n.1 x are).0 in
     let low = low_append (flat_map (entry_bytes Two) x.0) x.1 reads.low (nothing_low x.1 end.1) in
     subst AreSound end.0 (all_sound x.0 (reads.sound (subst AreLow (sym whole) low)))) h) h

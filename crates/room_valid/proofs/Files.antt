@@ -1,19 +1,19 @@
 -- The state that files stand for is valid.
-use Rattle.std.proofs.Common.{◌≡◌, ◌⊎◌, inl, inr, ◌+◌, ℕ, Bool, true, false, cond, List, [], ◌∷◌, length, Option, Some, None}
-use Rattle.std.proofs.Common.{nat_lt, option_map, refl, sym, subst}
+use Rattle.std.proofs.Common.{◌≡◌, inl, inr, ◌+◌, ℕ, List, [], ◌∷◌, length, Option, Some, None}
+use Rattle.std.proofs.Common.{refl, sym, subst}
 use Rattle.room_steps.proofs.Shallow.{keeps_shallow}
 use Rattle.room_steps.proofs.Sound.{keeps_sound}
-use Rattle.room_log.specs.Log.{State, Entry, empty_state, after}
+use Rattle.room_log.specs.Log.{State, Entry, after}
 use Rattle.room_log.specs.Follows.{IsValidState, follows}
 use Rattle.room_log.specs.Laws.{ValidAfter}
 use Rattle.room_log.proofs.ValidStates.{valid_after}
 use Rattle.room_bytes.specs.declared.entries.Format.{Format}
 use Rattle.room_bytes.specs.declared.entries.Format.TheVariants.{One, Two}
-use Rattle.room_bytes.specs.Reading.{◌>>=◌, entry_of, group_of}
+use Rattle.room_bytes.specs.Reading.{entry_of}
 use Rattle.room_snapshot.specs.Reading.{snapshot_of}
 use Rattle.room_journal.specs.Files.{Held, Reading, Holds, New as NewFiles, Damaged as DamagedFiles, reading}
-use Rattle.room_replay.specs.Files.{followed_by, followed, entries_in, taken, Files, New, Room, Damaged, or_damaged}
-use Rattle.room_replay.specs.Files.{replayed, opened, files_read, files, Stands, StandsFor}
+use Rattle.room_replay.specs.Files.{followed_by, followed, entries_in, taken, Files, Room, or_damaged}
+use Rattle.room_replay.specs.Files.{replayed, opened, files_read, files, Stands}
 use Rattle.room_replay.specs.Follow.{AreSound}
 use Rattle.room_valid.specs.Laws.{FilesAreValid, StandingIsValid}
 use Rattle.room_valid.proofs.Entries.{entry_sound, group_sound}

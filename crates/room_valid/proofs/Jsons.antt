@@ -1,10 +1,10 @@
 -- The value that a text spells is a value of the profile.
-use Rattle.std.proofs.Common.{◌≡◌, ◌≤◌, ◌≤ℤ◌, ℕ, ℤ, pos, nat_le, int_le, nat_lt, Bool, true, false, cond, List, [], ◌∷◌}
-use Rattle.std.proofs.Common.{Option, Some, None, option_map, option_and_then, Ok, Err, IsUtf8, refl, subst, arith, rules}
+use Rattle.std.proofs.Common.{◌≡◌, ◌≤ℤ◌, ℕ, ℤ, pos, nat_le, int_le, nat_lt, Bool, true, false, cond, List, [], ◌∷◌}
+use Rattle.std.proofs.Common.{Option, Some, None, Ok, Err, IsUtf8, refl, subst, arith, rules}
 use Rattle.std.specs.BTreeMap.{insert_entry}
 use Rattle.std.specs.Cmp.Lexicographic.{slice_cmp}
 use Rattle.std.specs.Ordering.{nat_cmp}
-use Rattle.std.specs.Prelude.{ok_or, ⊤}
+use Rattle.std.specs.Prelude.{ok_or}
 use Rattle.std.specs.Str.{is_utf8}
 use Rattle.std.proofs.lemmas.Bool.Decides.{nat_tests}
 use Rattle.std.proofs.lemmas.Str.{IsUtf8-from_is_utf8}
@@ -13,7 +13,7 @@ use Rattle.serde_json.specs.Read.{read as read_text}
 use Rattle.room_json.specs.Fields.{and_then}
 use Rattle.room_json.specs.Limits.{max_whole, min_whole}
 use Rattle.room_json.specs.Profile.{IsWhole, IsJson, AreJson}
-use Rattle.room_json.specs.Reading.{Refusal, not_json, too_deep, bad_number, whole_in, value_in, items_in, members_into}
+use Rattle.room_json.specs.Reading.{not_json, too_deep, bad_number, whole_in, value_in, items_in, members_into}
 use Rattle.room_json.specs.Reading.{data_in, profile_in, value_of_text}
 use Rattle.room_json.specs.Value.{Value, nothing, flag, whole, text, list, members, values_of, fields_of, merged}
 use Rattle.room_items.proofs.Members.{Pair, EachJson, object_json}

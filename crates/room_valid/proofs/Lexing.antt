@@ -1,6 +1,7 @@
 -- The keys and the strings among the tokens of a text are UTF-8, where the text is.
-use Rattle.std.proofs.Common.{◌≡◌, ◌<◌, ◌-◌, ℕ, Bool, true, false, cond, ◌&&◌, ◌==◌, nat_eq, List, [], ◌∷◌, ◌++◌, Option, Some, None}
-use Rattle.std.proofs.Common.{length, take, drop, IsUtf8, refl, sym, subst, arith, append_assoc}
+use Rattle.std.proofs.Common.{◌≡◌, ◌-◌, ℕ, Bool, true, false, cond, ◌&&◌, ◌==◌, nat_eq, List, [], ◌∷◌, ◌++◌, Option}
+use Rattle.std.proofs.Common.{Some, None}
+use Rattle.std.proofs.Common.{length, take, drop, IsUtf8, refl, arith}
 use Rattle.std.specs.Prelude.{⊤}
 use Rattle.json.specs.Text.{plain, content}
 use Rattle.json.specs.Token.{Token}
@@ -8,7 +9,7 @@ use Rattle.std.specs.List.{starts_with}
 use Rattle.json.specs.Word.{word, head, ends_word, number_before, after_number, literal, is_operator, is_space}
 use Rattle.json.specs.Lex.{Lexeme, token, comma, colon, Class, quote, backslash, operator, space, other, class}
 use Rattle.json.specs.Lex.{operator_lexeme, string_token, Mode, between, in_word, in_string, in_escape, lex_byte, lex}
-use Rattle.json.specs.Lex.{begins_colon, Place, fresh, after_value, after_comma, after_key, may_begin, may_close}
+use Rattle.json.specs.Lex.{Place, fresh, after_value, after_comma, after_key, may_begin, may_close}
 use Rattle.json.specs.Lex.{if_allowed, place_token, punctuate, tokens}
 use Rattle.json.specs.Ascii as ascii
 use Rattle.room_valid.proofs.Contents.{behind, eq_low, one_on, string_utf8}

@@ -1,7 +1,8 @@
 -- Bytes that are written are below 256.
-use Rattle.std.proofs.Common.{◌≡◌, ◌<◌, ◌≤◌, ◌+◌, ◌/◌, ◌%◌, ◌^◌, ℕ, zero, suc, Bool, true, false, cond, nat_lt, List, []}
-use Rattle.std.proofs.Common.{◌∷◌, ◌++◌, take, drop, get_or, flat_map, length, IsUtf8, encode_utf8_all, refl}
-use Rattle.std.proofs.Common.{◌&&◌, Ok, subst, arith}
+use Rattle.std.proofs.Common.{◌≡◌, ◌<◌, ◌≤◌, ◌+◌, ◌/◌, ◌%◌, ◌^◌, ℕ, zero, suc, Bool, true, false, cond, nat_lt, List}
+use Rattle.std.proofs.Common.{[]}
+use Rattle.std.proofs.Common.{◌∷◌, ◌++◌, take, drop, flat_map, length, IsUtf8, encode_utf8_all, refl}
+use Rattle.std.proofs.Common.{subst, arith}
 use Rattle.std.specs.Prelude.{⊤}
 use Rattle.std.specs.Char.{IsScalar, encode_utf8}
 use Rattle.std.specs.Int.{bytes_high_first, byte_at}
@@ -9,12 +10,12 @@ use Rattle.std.specs.List.{AllByRecursion}
 use Rattle.std.specs.Str.{all_scalars}
 use Rattle.std.proofs.lemmas.Bool.Decides.{nat_tests}
 use Rattle.room_json.specs.Profile.{IsJson, HaveJson}
-use Rattle.room_json.specs.Reading.{value_of_text}
 use Rattle.room_json.specs.Value.{Value, depth, fields_of, fields_depth, text_of}
 use Rattle.room_json.proofs.TextsAreUtf8.{text_spells}
 use Rattle.room_bytes.specs.Laws.{IsBytes}
 use Rattle.room_bytes.specs.Spelling.{u32_bytes, u64_bytes, text_bytes, json_bytes, field_bytes, fields_bytes}
 use Rattle.room_valid.proofs.Jsons.{spelled_utf8}
+use Rattle.room_valid.proofs.Options.{both}
 
 abbrev pub AreLow : List ℕ → Type 0
 AreLow [] = ⊤
@@ -95,10 +96,6 @@ low_char_by c false false false e f g h = (omega (arith, h), (omega arith, (omeg
 low_char : (c : ℕ) → IsScalar c → AreLow (encode_utf8 c)
 unfolding encode_utf8
 low_char c s = low_char_by c (nat_lt c 128) (nat_lt c 2048) (nat_lt c 65536) refl refl refl (scalar_small c s)
-
-both : (a b : Bool) → (a && b) ≡ true → (a ≡ true) × (b ≡ true)
-both true b e = (refl, e)
-both false b e = cc
 
 low_chars : (cs : List ℕ) → all_scalars cs ≡ true → AreLow (encode_utf8_all cs)
 low_chars [] s = tt

@@ -1,11 +1,15 @@
 -- What came of a test, of a step, of a map.
-use Rattle.std.proofs.Common.{◌≡◌, Bool, true, false, cond, Option, Some, None, option_map, option_and_then}
+use Rattle.std.proofs.Common.{◌≡◌, Bool, true, false, cond, ◌&&◌, Option, Some, None, option_map, option_and_then}
 use Rattle.std.proofs.Common.{refl, subst}
 
 pub by_cond : {A : Type 0} (P : Type 0) (b : Bool) (x y : Option A) (s : A) → (b ≡ true → x ≡ Some s → P)
     → (b ≡ false → y ≡ Some s → P) → cond b x y ≡ Some s → P
 by_cond P true x y s f g e = f refl e
 by_cond P false x y s f g e = g refl e
+
+pub both : (a b : Bool) → (a && b) ≡ true → (a ≡ true) × (b ≡ true)
+both true b e = (refl, e)
+both false b e = cc
 
 -- a test that held
 pub kept : {A : Type 0} (b : Bool) (o : Option A) (y : A) → cond b o None ≡ Some y → (b ≡ true) × (o ≡ Some y)

@@ -1,6 +1,6 @@
 -- What is parsed of tokens whose keys and strings are UTF-8 has texts in UTF-8.
-use Rattle.std.proofs.Common.{◌≡◌, ℕ, zero, suc, List, [], ◌∷◌, length, Option, Some, None, option_map, option_and_then}
-use Rattle.std.proofs.Common.{Bool, true, false, IsUtf8, Ordering, Less, Equal, Greater, refl, subst}
+use Rattle.std.proofs.Common.{◌≡◌, ℕ, zero, suc, List, [], ◌∷◌, length, Option, Some, None, option_and_then}
+use Rattle.std.proofs.Common.{IsUtf8, Ordering, Less, Equal, Greater, refl, subst}
 use Rattle.std.specs.Cmp.Lexicographic.{slice_cmp}
 use Rattle.std.specs.Ordering.{nat_cmp, match_ordering}
 use Rattle.std.specs.Prelude.{⊤}

@@ -1,21 +1,18 @@
 -- The parts of entries and snapshots that are read: they are sound where the bytes are below 256, and the bytes that
 -- are written of them are.
-use Rattle.std.proofs.Common.{◌≡◌, ◌<◌, ◌≤◌, ◌^◌, ℕ, zero, suc, Bool, true, false, cond, nat_eq, nat_lt, nat_le, List, []}
-use Rattle.std.proofs.Common.{◌∷◌, ◌++◌, take, drop, flat_map, length, Option, Some, None, option_map, Ok, Err, Result}
+use Rattle.std.proofs.Common.{◌≡◌, ◌<◌, ◌≤◌, ◌^◌, ℕ, zero, suc, Bool, true, false, cond, nat_eq, nat_lt, nat_le, List}
+use Rattle.std.proofs.Common.{[]}
+use Rattle.std.proofs.Common.{◌∷◌, take, drop, flat_map, length, Option, Some, None, option_map, Ok, Err, Result}
 use Rattle.std.proofs.Common.{IsUtf8, refl, sym, ap, subst, arith}
-use Rattle.std.specs.Prelude.{⊤}
-use Rattle.std.specs.Int.{Width, w32, w64, byte_len, from_be_bytes}
+use Rattle.std.specs.Int.{w32, w64, byte_len, from_be_bytes}
 use Rattle.std.specs.List.{AllByRecursion}
 use Rattle.std.specs.Str.{is_utf8}
-use Rattle.std.proofs.lemmas.Bool.Decides.{nat_tests}
 use Rattle.std.proofs.lemmas.Str.{IsUtf8-from_is_utf8, IsUtf8-nil}
 use Rattle.room_json.specs.Back.{json_in}
-use Rattle.room_json.specs.Profile.{IsJson, HaveJson, AreSoundMembers}
+use Rattle.room_json.specs.Profile.{IsJson, AreSoundMembers}
 use Rattle.room_json.specs.Reading.{Refusal, value_of_text}
-use Rattle.room_json.specs.Value.{Value, depth, fields_of, fields_depth, merged, object_of}
-use Rattle.room_json.specs.View.{json_of}
-use Rattle.room_ids.specs.Laws.{IsInRange, IsNodeInRange}
-use Rattle.room_ids.specs.Stamp.{Stamp}
+use Rattle.room_json.specs.Value.{Value, depth, fields_of, fields_depth, merged}
+use Rattle.room_ids.specs.Laws.{IsNodeInRange}
 use Rattle.room_ids.specs.declared.ids.NodeId.{NodeId}
 use Rattle.room_ids.specs.declared.ids.NodeId.TheVariants.{Root, Made}
 use Rattle.room_nodes.specs.Sound.{IsSomeInRange, IsSoundKind}
@@ -28,10 +25,11 @@ use Rattle.room_msg.proofs.ReadDepth.{text_depth}
 use Rattle.room_bytes.specs.declared.entries.Format.{Format}
 use Rattle.room_bytes.specs.declared.entries.Format.TheVariants.{One, Two}
 use Rattle.room_bytes.specs.Laws.{IsBytes}
-use Rattle.room_bytes.specs.Reading.{◌>>=◌, number_at, u32_at, u64_at, byte_at, string_at, text_at, value_in, json_at}
+use Rattle.room_bytes.specs.Reading.{◌>>=◌, u32_at, u64_at, byte_at, string_at, text_at, value_in, json_at}
 use Rattle.room_bytes.specs.Reading.{made_at, id_at, replaced_at, each_at, field_at, fields_at, kind_at, name_at}
 use Rattle.room_bytes.specs.Spelling.{u32_bytes, u64_bytes, text_bytes, id_bytes, replaced_bytes, fields_bytes}
 use Rattle.room_bytes.specs.Spelling.{json_bytes, kind_bytes, name_bytes}
+use Rattle.room_bytes.proofs.Parts.{true_le}
 use Rattle.room_valid.proofs.Jsons.{text_json}
 use Rattle.room_valid.proofs.Lows.{AreLow, low_append, low_take, low_drop, low_bytes, low_u32, low_u64, low_text}
 use Rattle.room_valid.proofs.Lows.{low_json, low_fields}
@@ -144,9 +142,6 @@ unfolding id_bytes
 low_id Root = (omega arith, tt)
 low_id (Made s) = (omega arith, low_append (u32_bytes s.actor) (u64_bytes s.clock) (low_u32 s.actor) (low_u64 s.clock))
 
-from_le : (a b : ℕ) → nat_le a b ≡ true → a ≤ b
-from_le a b t = grind (arith, nat_tests, t)
-
 made_reads : (bytes : List ℕ) (p : NodeId × List ℕ) → made_at bytes ≡ Some p → Reads id_bytes IsNodeInRange bytes p
 unfolding made_at
 made_reads bytes p e =
@@ -159,7 +154,7 @@ made_reads bytes p e =
     same (Reads id_bytes IsNodeInRange bytes) (x, clock.1) p
     (record {
       low = low_id x;
-      sound = λ h. (omega (arith, a.sound h), from_le clock.0 most k.0);
+      sound = λ h. (omega (arith, a.sound h), true_le clock.0 most k.0);
       left = λ h. c.left (a.left h);
     }) k.1) e) e
 

@@ -1,16 +1,15 @@
 -- The state that a snapshot is read as is valid.
-use Rattle.std.proofs.Common.{◌≡◌, ◌<◌, ◌≤◌, ◌-◌, ℕ, Bool, true, false, cond, ◌&&◌, nat_eq, nat_le, List, [], ◌∷◌, ◌++◌}
-use Rattle.std.proofs.Common.{flat_map, length, Option, Some, None, IsUtf8, refl, sym, ap, subst, arith}
+use Rattle.std.proofs.Common.{◌≡◌, ◌<◌, ◌≤◌, ◌-◌, ℕ, true, ◌&&◌, nat_eq, nat_le, List, [], ◌∷◌, ◌++◌}
+use Rattle.std.proofs.Common.{flat_map, length, Option, Some, None, IsUtf8, refl, sym, subst, arith}
 use Rattle.std.specs.FinMap.{get}
 use Rattle.std.specs.List.{AllByRecursion}
-use Rattle.std.proofs.lemmas.Bool.Decides.{nat_tests}
 use Rattle.std.proofs.lemmas.Str.{IsUtf8-nil}
 use Rattle.room_ids.specs.Laws.{IsNodeInRange}
 use Rattle.room_ids.specs.declared.ids.NodeId.{NodeId}
 use Rattle.room_ids.specs.declared.ids.NodeId.TheVariants.{Root, Made}
 use Rattle.room_nodes.specs.Preorder.{preorder}
 use Rattle.room_nodes.specs.Shape.{Nodes, IsFormed}
-use Rattle.room_nodes.specs.Sound.{IsSoundKind, IsSoundNode, IsSoundTree}
+use Rattle.room_nodes.specs.Sound.{IsSoundNode, IsSoundTree}
 use Rattle.room_nodes.specs.declared.nodes.Node.{Node}
 use Rattle.room_nodes.specs.declared.nodes.Kind.{Kind}
 use Rattle.room_nodes.specs.declared.nodes.Kind.TheVariants.{Object, List as Listed, Map, Register}
@@ -18,10 +17,11 @@ use Rattle.room_items.specs.Items.{kind_number}
 use Rattle.room_log.specs.Log.{Session, State}
 use Rattle.room_log.specs.Follows.{most, most_actor, IsKey, AreValidSessions, IsValidState}
 use Rattle.room_bytes.specs.declared.entries.Format.{Format}
-use Rattle.room_bytes.specs.Reading.{◌>>=◌, u32_at, u64_at, byte_at, id_at, text_at, name_at, json_at, fields_at}
-use Rattle.room_bytes.specs.Reading.{each_at, ended}
+use Rattle.room_bytes.specs.Reading.{u32_at, u64_at, byte_at, id_at, text_at, name_at, json_at, fields_at}
+use Rattle.room_bytes.specs.Reading.{each_at}
 use Rattle.room_bytes.specs.Spelling.{u32_bytes, u64_bytes, text_bytes, id_bytes, kind_bytes, name_bytes}
 use Rattle.room_bytes.proofs.Once.{ended_is}
+use Rattle.room_bytes.proofs.Parts.{true_le}
 use Rattle.room_snapshot.specs.Bounds.{all_by, is_session, is_name, is_shallow_at, is_within}
 use Rattle.room_snapshot.specs.Reading.{session_at, content_at, kind_at, root_at, row_at, rooted, tree_at, sessions_at}
 use Rattle.room_snapshot.specs.Reading.{parts_at, behind_if, checked, snapshot_of}
@@ -29,13 +29,14 @@ use Rattle.room_snapshot.specs.Spelling.{session_bytes, place_bytes, node_bytes,
 use Rattle.room_snapshot.specs.Spelling.{sessions_bytes, snapshot_bytes}
 use Rattle.room_snapshot.proofs.Listed.{shallow_all}
 use Rattle.room_snapshot.proofs.Once.{snapshots_once}
-use Rattle.room_valid.proofs.Lows.{AreLow, low_append, low_front, low_behind, each_low, low_flat, low_u32, low_u64}
+use Rattle.room_valid.proofs.Lows.{AreLow, low_append, low_front, low_behind, low_flat, low_u32}
 use Rattle.room_valid.proofs.Lows.{low_text}
-use Rattle.room_valid.proofs.Options.{by_cond, kept, same}
+use Rattle.room_valid.proofs.Options.{both, by_cond, kept, same}
 use Rattle.room_valid.proofs.Parts.{Reads, then, u32_reads, u64_reads, byte_left, text_reads, id_reads, low_id}
-use Rattle.room_valid.proofs.Parts.{json_reads, each_reads, fields_reads, name_reads, Holds, object_reads, register_reads}
+use Rattle.room_valid.proofs.Parts.{json_reads, each_reads, fields_reads, name_reads, Holds, object_reads}
+use Rattle.room_valid.proofs.Parts.{register_reads}
 use Rattle.room_valid.proofs.Parts.{plain_reads}
-use Rattle.room_valid.proofs.Rooted.{AllNodes, at_depth, alone, rooted_formed, rooted_all}
+use Rattle.room_valid.proofs.Rooted.{AllNodes, at_depth, rooted_formed, rooted_all}
 
 -- sessions
 
@@ -248,20 +249,13 @@ parts_read f bytes p e =
       few = λ h. b.few (a.left h);
     }) e) e) e) e
 
-both : (a b : Bool) → (a && b) ≡ true → (a ≡ true) × (b ≡ true)
-both true b e = (refl, e)
-both false b e = cc
-
-from_le : (a b : ℕ) → nat_le a b ≡ true → a ≤ b
-from_le a b t = grind (arith, nat_tests, t)
-
 valid_sessions : (f : Format) (ss : List Session) → all_by (is_session f) ss ≡ true → AllByRecursion IsSession ss
     → AreValidSessions ss
 valid_sessions f [] t h = tt
 valid_sessions f (s ∷ ss) t h =
     let p = both (is_session f s) (all_by (is_session f) ss) t in
     let last = (both (nat_le s.last most) (is_name f s.name) p.0).0 in
-    (record { key = h.0.0; last = from_le s.last most last; name = h.0.1 }, valid_sessions f ss p.1 h.1)
+    (record { key = h.0.0; last = true_le s.last most last; name = h.0.1 }, valid_sessions f ss p.1 h.1)
 
 checked_is : (f : Format) (bytes : List ℕ) (r s : State) → checked f bytes r ≡ Some s → r ≡ s
 unfolding checked
@@ -279,7 +273,7 @@ valid_by f bytes s is within h =
       formed = h.formed;
       sound = h.sound low;
       shallow = shallow_all s.tree h.formed q.1;
-      count = from_le s.count most p.0;
+      count = true_le s.count most p.0;
       sessions = valid_sessions f s.sessions q.0 (h.sessions low);
       actors = h.few low;
     }
@@ -289,4 +283,5 @@ unfolding snapshot_of
 snapshot_valid f bytes s e =
     let once = snapshots_once f bytes s e in
     then _ (parts_at f bytes) _ s (λ r is e.
-    valid_by f bytes s once.0 once.1 (subst (ReadsState f bytes) (checked_is f bytes r.0 s e) (parts_read f bytes r is))) e
+    let state = subst (ReadsState f bytes) (checked_is f bytes r.0 s e) (parts_read f bytes r is) in
+    valid_by f bytes s once.0 once.1 state) e
