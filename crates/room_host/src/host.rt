@@ -1,4 +1,5 @@
 //! A server that runs or is stopped, over a disk that can stop.
+ghost use Rattle.std.specs.Option.{option_copied};
 ghost use Rattle.std.specs.Prelude.{◌≡◌, ◌≤◌, ◌⊎◌, IfOk, IfErr, OnOk, OnErr, IsSome, is_some, map, [], true};
 ghost use Rattle.std.specs.Prelude.{false, Some, None};
 ghost use Rattle.std.specs.FinMap.{get};
@@ -94,6 +95,13 @@ impl<T: Tree> Host<T> {
             }),
             Err(fault) => Err(fault),
         }
+    }
+
+    /// The server, where it runs.
+    pub fn server(&self) -> Option<&Server<T>>
+        ensures { option_copied result ≡ self.now.server }
+    {
+        self.server.as_ref()
     }
 
     /// Whether it runs.
