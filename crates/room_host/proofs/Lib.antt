@@ -1,8 +1,8 @@
-mod Serving
+pub mod Serving
 mod Moments
 mod Firing
 mod Committing
-mod Lying
+pub mod Lying
 mod Framing
 mod Compacting
 mod Recovering
