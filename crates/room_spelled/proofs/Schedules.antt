@@ -2,14 +2,14 @@
 use Rattle.std.proofs.Common.{◌≡◌, ◌≤◌, ◌+◌, ◌==◌, ℕ, suc, Bool, true, false, cond, List, [], ◌∷◌, length, Option}
 use Rattle.std.proofs.Common.{Some, None, Result, Ok, Err, subst, arith}
 use Rattle.std.specs.Prelude.{IfSome, IfOk, ⊤}
+use Rattle.room_log.specs.Follows.{IsKey}
 use Rattle.room_model.specs.Lines.{Line}
 use Rattle.room_model.specs.Sound.{IsLine}
-use Rattle.room_laws.specs.Validity.{AreSpelled}
+use Rattle.room_laws.specs.Validity.{AreSpelled, AreLines}
 use Rattle.room_script.specs.Grammar.{ScriptLine, with_byte, rows, is_skipped, line_then, lines_from}
 use Rattle.room_script.specs.Grammar.{schedule_line, schedule_in, script_line, script_in}
 use Rattle.room_wire.proofs.Fields.{ok_inj}
-use Rattle.room_spelled.specs.Laws.{SchedulesAreSpelled, LinesAreFew, SchedulesAreLines, IsScriptLine, AreScriptLines}
-use Rattle.room_spelled.specs.Laws.{ScriptsAreSpelled}
+use Rattle.room_spelled.specs.Laws.{IsScriptLine, AreScriptLines}
 use Rattle.room_spelled.proofs.Lines.{line_sound, script_line_sound}
 
 -- rows
@@ -73,13 +73,13 @@ facts bs ls e =
     of_ok (AreFew IsLine (length (rows bs))) (schedule_in bs) ls e
     (all_sound IsLine schedule_line line_sound 1 (rows bs))
 
-pub spelled : SchedulesAreSpelled
+pub spelled : (bs : List ℕ) (ls : List (ℕ × Line)) → schedule_in bs ≡ Ok ls → AreSpelled ls
 spelled bs ls e = each_spelled ls (facts bs ls e).0
 
-pub few : LinesAreFew
+pub few : (bs : List ℕ) (ls : List (ℕ × Line)) → schedule_in bs ≡ Ok ls → length ls ≤ length bs
 few bs ls e = omega (arith, (facts bs ls e).1, few_rows bs)
 
-pub are_lines : SchedulesAreLines
+pub are_lines : (bs : List ℕ) (ls : List (ℕ × Line)) → IsKey (length bs) → schedule_in bs ≡ Ok ls → AreLines ls
 are_lines bs ls short e = record { spelled = spelled bs ls e; fewer = omega (arith, few bs ls e, short) }
 
 -- scripts
@@ -88,7 +88,7 @@ each_script : (ls : List (ℕ × ScriptLine)) → Each IsScriptLine ls → AreSc
 each_script [] h = tt
 each_script (l ∷ ls) h = (h.0, each_script ls h.1)
 
-pub scripts_spelled : ScriptsAreSpelled
+pub scripts_spelled : (bs : List ℕ) (ls : List (ℕ × ScriptLine)) → script_in bs ≡ Ok ls → AreScriptLines ls
 scripts_spelled bs ls e =
     each_script ls (of_ok (AreFew IsScriptLine (length (rows bs))) (script_in bs) ls e
     (all_sound IsScriptLine script_line script_line_sound 1 (rows bs))).0
