@@ -1,0 +1,10 @@
+pub mod Calling
+pub mod Connecting
+pub mod Dials
+pub mod Drains
+pub mod Frames
+pub mod Moments
+pub mod Receiving
+pub mod Sends
+pub mod Serves
+pub mod Staying
