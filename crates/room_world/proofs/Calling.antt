@@ -1,10 +1,10 @@
 -- A call of a client that changes nothing but its slot, as the world's line.
-use Rattle.std.proofs.Common.{◌≡◌, ℕ, List, Option, Result, refl, sym, ap, ◌∙◌, subst, IfOk}
+use Rattle.std.proofs.Common.{◌≡◌, ℕ, List, Option, Result, refl, sym, ◌∙◌, subst, IfOk}
 use Rattle.std.proofs.lemmas.Result.{IfOk-weaker}
 use Rattle.room_json.specs.declared.memory.NoMemory.{NoMemory}
 use Rattle.room_model.specs.Lines.{Call, OfClient}
 use Rattle.room_slots.specs.Slots.{Clients, Calls, line_in}
-use Rattle.room_world.specs.Did.{Did, Does}
+use Rattle.room_world.specs.Did.{Does}
 use Rattle.room_world.specs.Seen.{Peopled, world_in}
 
 abbrev pub with_clients : Peopled → Clients → Peopled

@@ -1,58 +1,29 @@
 -- Lines of connections, as the world's line, by what is done to its parts.
-use Rattle.std.proofs.Common.{◌≡◌, ℕ, Bool, true, false, cond, List, [], ◌∷◌, map, Option, Some, None, refl, sym, ap, ◌∙◌}
-use Rattle.std.proofs.Common.{subst, is_some, is_none}
+use Rattle.std.proofs.Common.{◌≡◌, ℕ, Bool, true, false, List, [], map, Option, refl, sym, ap, ◌∙◌}
+use Rattle.std.proofs.Common.{subst, is_some}
 use Rattle.std.specs.Ordering.{nat_cmp}
-use Rattle.std.specs.FinMap.{get, get-empty}
+use Rattle.std.specs.FinMap.{FinMap, get, get-empty}
+use Rattle.room_replay.specs.Files.{Files}
+use Rattle.room_arrivals.specs.Serving.{limits_of}
+use Rattle.room_links.specs.Outs.{written}
+use Rattle.room_links.specs.declared.outs.Out.{Out}
+use Rattle.room_store.specs.declared.limits.Limits.{Limits}
 use Rattle.room_log.specs.Log.{State}
-use Rattle.room_msg.specs.Frame.{client_frame_in}
-use Rattle.room_model.specs.Server.{Server, Outbound, Link, gone}
+use Rattle.room_model.specs.Server.{Outbound, Link}
 use Rattle.room_model.specs.Lines as lines
-use Rattle.room_model.specs.World.{World, Conn, Host, Running, Stopped, is_attached, raw_at, raw_on, send_inbound, goes}
-use Rattle.room_model.specs.World.{gone_on, gone_conn, deliver, links_of, step}
-use Rattle.room_queues.specs.Calls.{sent}
-use Rattle.room_moves.specs.Parts.{with_conns}
+use Rattle.room_model.specs.World.{World, Conn, Host, Running, Stopped, is_attached, goes}
+use Rattle.room_model.specs.World.{gone_on, gone_conn, deliver, links_of, step, Fuse}
 use Rattle.room_moves.specs.Reading.{GoneReads, AreSendsRead}
-use Rattle.room_moves.proofs.Parts.{sends}
 use Rattle.room_host.specs.Outcomes.{gone_in, outs_in}
+use Rattle.room_host.specs.Seen.{Hosting, host_in}
 use Rattle.room_world.specs.Did.{Did}
-use Rattle.room_world.specs.Sending.{is_link}
-
-true_false : true ≡ false → ⊥
-true_false e = cc
+use Rattle.room_world.specs.Seen.{Peopled, world_in}
 
 false_true : false ≡ true → ⊥
 false_true e = cc
 
 nobody : (k : ℕ) (s : State) → is_some (get (links_of (Stopped s)) k) ≡ true → ⊥
 nobody k s e = false_true (ap is_some (sym (get-empty {X = Link} nat_cmp k)) ∙ e)
-
--- a text on a link
-
-owned : (w : World) (k : ℕ) (text : List ℕ) (o : Option ℕ) → is_none o ≡ false → raw_on w k text o ≡ w
-owned w k text None e = absurd (true_false e)
-owned w k text (Some c) e = refl
-
-unowned : (w : World) (k : ℕ) (text : List ℕ) (o : Option ℕ) → is_none o ≡ true
-    → raw_on w k text o ≡ send_inbound w k (client_frame_in text ∷ [])
-unowned w k text None e = refl
-unowned w k text (Some c) e = absurd (false_true e)
-
-linked : (w : World) (k : ℕ) (text : List ℕ) (o : Option Conn) → is_link o ≡ true
-    → raw_at w k text o ≡ send_inbound w k (client_frame_in text ∷ [])
-linked w k text None e = absurd (false_true e)
-linked w k text (Some q) e = unowned w k text q.owner e
-
-pub no_link : (w : World) (k : ℕ) (text : List ℕ) (o : Option Conn) → is_link o ≡ false → raw_at w k text o ≡ w
-no_link w k text None e = refl
-no_link w k text (Some q) e = owned w k text q.owner e
-
-pub raws : (w : World) (k : ℕ) (text : List ℕ) (attached : Bool) → is_link (get w.conns k) ≡ true
-    → is_attached w k ≡ attached
-    → raw_at w k text (get w.conns k)
-    ≡ with_conns w (cond attached (sent w.conns k (client_frame_in text ∷ []) (get w.conns k)) w.conns)
-raws w k text attached link e =
-    linked w k text (get w.conns k) link ∙ sends w k (client_frame_in text ∷ [])
-    ∙ ap (λ b. with_conns w (cond b (sent w.conns k (client_frame_in text ∷ []) (get w.conns k)) w.conns)) e
 
 -- a connection is gone
 
@@ -73,9 +44,31 @@ pub goes_on : (w : World) (k : ℕ) (host : Host) → host ≡ gone_in w.host k 
 goes_on w k host is b =
     ap (gone_on w k w.host) b ∙ gone_at w k w.host b ∙ ap (λ h. gone_with w k h (outs_in w.host k)) (sym is)
 
-not_on : (w : World) (k : ℕ) (h : Host) → gone_on w k h false ≡ w
-not_on w k (Running v) = refl
-not_on w k (Stopped s) = refl
-
-pub stays : (w : World) (k : ℕ) → is_attached w k ≡ false → goes w k ≡ w
-stays w k b = ap (gone_on w k w.host) b ∙ not_on w k w.host
+-- the line, where what goes out for the connection left `qs` waiting
+pub gone_by : (p q : Peopled) (host : Hosting) (number k : ℕ) (attached : Bool) (outs : List Out)
+    (mid qs : FinMap nat_cmp Conn) (fs : Files) (fuse : Option Fuse) → p ≡ q
+    → ((fs : Files) → attached ≡ is_some (get (links_of (host_in q.hosting.server fs)) k)) → attached ≡ true
+    → host_in host.server fs ≡ gone_in (host_in q.hosting.server fs) k
+    → outs ≡ map written (outs_in (host_in q.hosting.server fs) k) → host.limits ≡ q.hosting.limits
+    → mid ≡ gone_conn q.conns k (get q.conns k)
+    → ((os : List (ℕ × Outbound)) → outs ≡ map written os → AreSendsRead os → qs ≡ deliver mid os)
+    → GoneReads k (host_in p.hosting.server fs)
+    → Did (step (world_in p fs fuse) number (lines.OfConnection k lines.Gone)) []
+    (world_in (record { hosting = host; clients = q.clients; conns = qs; opened = q.opened }) fs fuse)
+gone_by p q host number k attached outs mid qs fs fuse is at on left sent same mid_is down read =
+    let new : Peopled = record { hosting = host; clients = q.clients; conns = qs; opened = q.opened } in
+    let w = world_in q fs fuse in
+    let os = outs_in w.host k in
+    let read_there : GoneReads k (host_in q.hosting.server fs) =
+    subst (λ (y : Peopled). GoneReads k (host_in y.hosting.server fs)) is read in
+    let waits : qs ≡ deliver (gone_conn w.conns k (get w.conns k)) os =
+    down os sent (are_read w.host k read_there) ∙ ap (λ (m : FinMap nat_cmp Conn). deliver m os) mid_is in
+    let goes_so : goes w k ≡ gone_with w k (host_in host.server fs) os =
+    goes_on w k (host_in host.server fs) left (sym (at fs) ∙ on) in
+    let now : gone_with w k (host_in host.server fs) os ≡ world_in new fs fuse =
+    ap (λ (l : Limits). record (gone_with w k (host_in host.server fs) os) { limits = limits_of l }) (sym same)
+    ∙ ap (λ (m : FinMap nat_cmp Conn). world_in (record new { conns = m }) fs fuse) (sym waits) in
+    subst
+    (λ (y : Peopled). Did (step (world_in y fs fuse) number (lines.OfConnection k lines.Gone)) []
+    (world_in new fs fuse))
+    (sym is) (record { lines_are = refl; world_is = goes_so ∙ now })

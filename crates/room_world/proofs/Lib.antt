@@ -1,3 +1,4 @@
+pub mod Begun
 pub mod Calling
 pub mod Connecting
 pub mod Dials

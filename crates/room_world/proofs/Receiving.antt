@@ -1,16 +1,16 @@
 -- What a client or a link receives, as the world's line, by what is done to its parts.
 use Rattle.std.proofs.Common.{Bool, is_some, option_map, IfOk}
-use Rattle.std.proofs.Common.{◌≡◌, ℕ, List, [], ◌∷◌, map, Option, Some, None, Result, Ok, Err, refl, sym, ap, ◌∙◌, subst}
+use Rattle.std.proofs.Common.{◌≡◌, ℕ, List, [], ◌∷◌, map, Option, Some, None, Result, refl, sym, ap, ◌∙◌, subst}
 use Rattle.std.specs.Ordering.{nat_cmp}
 use Rattle.std.specs.FinMap.{FinMap, get, insert}
 use Rattle.room_replay.specs.Files.{Files}
 use Rattle.room_model.specs.Server.{Outbound}
 use Rattle.room_model.specs.Lines as lines
-use Rattle.room_model.specs.World.{World, Conn, Slot, Fuse, slot_in, account, client_takes, owner_takes, owner_of, saying}
-use Rattle.room_model.specs.World.{link_takes, peer_receives, cut_present, quiet, step}
+use Rattle.room_model.specs.World.{World, Conn, Fuse, slot_in, client_takes, owner_takes, owner_of, saying}
+use Rattle.room_model.specs.World.{link_takes, step}
 use Rattle.room_moves.specs.Parts.{with_conns}
 use Rattle.room_moves.proofs.Parts.{nothing_outbound, takes}
-use Rattle.room_moves.specs.Reading.{AreFramesRead, DownReads, TakeReads, replies_to}
+use Rattle.room_moves.specs.Reading.{AreFramesRead, replies_to}
 use Rattle.std.proofs.lemmas.Result.{IfOk-weaker}
 use Rattle.room_json.specs.declared.memory.NoMemory.{NoMemory}
 use Rattle.room_queues.specs.Calls.{first, rest, next_outbound, taken}
@@ -20,30 +20,14 @@ use Rattle.room_slots.proofs.Maps.{insert_there}
 use Rattle.room_slots.specs.Slots.{Clients}
 use Rattle.room_slots.specs.Taking.{Takes}
 use Rattle.room_slots.specs.declared.taking.Taken.{Taken}
-use Rattle.room_slots.specs.declared.taking.Taken.TheVariants.{Heard, Lost}
+use Rattle.room_slots.specs.declared.taking.Taken.TheVariants.{Heard}
 use Rattle.room_msg.specs.Written.{client_text}
 use Rattle.room_msg.specs.declared.messages.ClientMsg.{ClientMsg}
 use Rattle.room_host.specs.Seen.{host_in}
 use Rattle.room_model.specs.World.{is_attached, links_of, send_inbound, inbound_frame}
-use Rattle.room_world.specs.Did.{Did, Becomes}
+use Rattle.room_world.specs.Did.{Did}
 use Rattle.room_world.specs.Seen.{Peopled, world_in}
 use Rattle.room_world.proofs.Dials.{Sends, with_clients, with_queues}
-
-none_some : {A : Type 0} (x : A) → None ≡ Some x → ⊥
-none_some x e = cc
-
-some_is : {A : Type 0} (x y : A) → Some x ≡ Some y → x ≡ y
-some_is x y e = cc
-
--- what answers is read
-
-take_reads : (w : World) (c : ℕ) (m : Outbound) (o : Option Outbound) (owner : Option ℕ) → o ≡ Some m → owner ≡ Some c
-    → TakeReads w o owner → AreFramesRead (replies_to (slot_in (get w.clients c)) m)
-take_reads w c m None owner e is h = absurd (none_some m e)
-take_reads w c m (Some n) None e is h = absurd (none_some c is)
-take_reads w c m (Some n) (Some d) e is h =
-    subst (λ m. AreFramesRead (replies_to (slot_in (get w.clients c)) m)) (some_is n m e)
-    (subst (λ c. AreFramesRead (replies_to (slot_in (get w.clients c)) n)) (some_is d c is) h.1)
 
 -- what a client receives
 
@@ -56,23 +40,14 @@ pub hears : (p : Peopled) (new : Clients) (number c k : ℕ) (m : Outbound) (ls 
 hears p new number c k m ls replies qs fs fuse h sends =
     let t = h.1 (world_in p fs fuse) refl in record { lines_are = t.0; world_is = t.1 ∙ sends fs fuse }
 
-pub loses : (p : Peopled) (new : Clients) (r : Peopled) (number c k : ℕ) (m : Outbound) (line : List ℕ)
-    (cut : Option ℕ) (fs : Files) (fuse : Option Fuse)
-    → Takes p.clients new number c k m (Lost line cut)
-    → Becomes (with_clients p new) r (λ w. cut_present w cut)
-    → Did (client_takes (world_in p fs fuse) number c k (slot_in (get p.clients c)) m) (line ∷ [])
-    (world_in r fs fuse)
-loses p new r number c k m line cut fs fuse h b =
-    let t = h (world_in p fs fuse) refl in record { lines_are = t.0; world_is = t.1 ∙ sym (b fs fuse) }
-
 -- the line
 
 pub nothing_down : (w : World) (number k : ℕ) → next_outbound (get w.conns k) ≡ None
     → Did (step w number (lines.OfConnection k lines.Down)) [] w
 nothing_down w number k e = record {
-    lines_are = ap (λ o. o.lines) (nothing_outbound w number k e);
-    world_is = ap (λ o. o.world) (nothing_outbound w number k e);
-  }
+  lines_are = ap (λ o. o.lines) (nothing_outbound w number k e);
+  world_is = ap (λ o. o.world) (nothing_outbound w number k e);
+}
 
 pub link_down : (w v : World) (number k : ℕ) (m : Outbound) (line : List ℕ) → next_outbound (get w.conns k) ≡ Some m
     → owner_of (get w.conns k) ≡ None → v ≡ with_conns w (taken w.conns k (get w.conns k))
@@ -80,20 +55,9 @@ pub link_down : (w v : World) (number k : ℕ) (m : Outbound) (line : List ℕ) 
     → Did (step w number (lines.OfConnection k lines.Down)) (line ∷ []) v
 link_down w v number k m line e is at h =
     let all = takes w number k m e
-      ∙ ap (λ o. owner_takes (with_conns w (taken w.conns k (get w.conns k))) number k m o) is
-      ∙ ap (λ v. link_takes v k m) (sym at) ∙ h in
+    ∙ ap (λ o. owner_takes (with_conns w (taken w.conns k (get w.conns k))) number k m o) is
+    ∙ ap (λ v. link_takes v k m) (sym at) ∙ h in
     record { lines_are = ap (λ o. o.lines) all; world_is = ap (λ o. o.world) all }
-
-pub client_down : (w v u : World) (number c k : ℕ) (m : Outbound) (ls : List (List ℕ))
-    → next_outbound (get w.conns k) ≡ Some m → owner_of (get w.conns k) ≡ Some c
-    → v ≡ with_conns w (taken w.conns k (get w.conns k))
-    → Did (client_takes v number c k (slot_in (get v.clients c)) m) ls u
-    → Did (step w number (lines.OfConnection k lines.Down)) ls u
-client_down w v u number c k m ls e is at h =
-    let all = takes w number k m e
-      ∙ ap (λ o. owner_takes (with_conns w (taken w.conns k (get w.conns k))) number k m o) is
-      ∙ ap (λ v. client_takes v number c k (slot_in (get v.clients c)) m) (sym at) in
-    record { lines_are = ap (λ o. o.lines) all ∙ h.lines_are; world_is = ap (λ o. o.world) all ∙ h.world_is }
 
 -- the frames that answer it go up, where the queues became `qs`
 pub heard_by : (p q : Peopled) (new : Clients) (number c k : ℕ) (m : Outbound) (taken : Taken)
@@ -108,9 +72,9 @@ pub heard_by : (p q : Peopled) (new : Clients) (number c k : ℕ) (m : Outbound)
     (world_in (with_queues (with_clients q new) qs) fs fuse)
 heard_by p q new number c k m taken ls replies qs attached fs fuse is takes heard at sends read =
     let t : Takes q.clients new number c k m (Heard ls replies) =
-        subst (Takes q.clients new number c k m) heard takes in
+    subst (Takes q.clients new number c k m) heard takes in
     let r : AreFramesRead (replies_to (slot_in (get q.clients c)) m) =
-        subst (λ (x : Peopled). AreFramesRead (replies_to (slot_in (get x.clients c)) m)) is read in
+    subst (λ (x : Peopled). AreFramesRead (replies_to (slot_in (get x.clients c)) m)) is read in
     subst (λ (x : Peopled). Did (client_takes (world_in x fs fuse) number c k (slot_in (get x.clients c)) m) ls
     (world_in (with_queues (with_clients q new) qs) fs fuse)) (sym is)
     (hears q new number c k m ls replies qs fs fuse t
@@ -166,30 +130,3 @@ link_heard p q number k mails mail owner line qs result fs fuse is some next res
     (sym (own ∙ ap (λ (x : Peopled). owner_of (get x.conns k)) is) ∙ none)
     (ap (λ (x : FinMap nat_cmp Conn). world_in (with_queues q x) fs fuse) rest)
     (says (world_in (with_queues q qs) fs fuse))))) lines
-
--- what the client of the connection did, from the queues after it on
-abbrev pub ClientHears : Peopled → (number c k : ℕ) → Outbound → Peopled → Files → Option Fuse → List (List ℕ) → Type 0
-ClientHears p number c k m new fs fuse ls =
-    Did (client_takes (world_in p fs fuse) number c k (slot_in (get p.clients c)) m) ls (world_in new fs fuse)
-
-pub client_heard : (p q r new : Peopled) (number c k : ℕ) (mails : Option Mail) (mail : Mail) (owner : Option ℕ)
-    (qs : FinMap nat_cmp Conn) (result : Result (List (List ℕ)) NoMemory) (fs : Files) (fuse : Option Fuse) → p ≡ q
-    → mails ≡ Some mail → option_map outbound_in mails ≡ next_outbound (get q.conns k)
-    → qs ≡ taken q.conns k (get q.conns k) → owner ≡ owner_of (get p.conns k) → owner ≡ Some c → r ≡ with_queues q qs
-    → DownReads (world_in p fs fuse) k
-    → (AreFramesRead (replies_to (slot_in (get r.clients c)) (outbound_in mail))
-    → IfOk result (ClientHears r number c k (outbound_in mail) new fs fuse))
-    → IfOk result (Received p number k new fs fuse)
-client_heard p q r new number c k mails mail owner qs result fs fuse is some next rest own its at reads hears =
-    let m = outbound_in mail in
-    let e : next_outbound (get q.conns k) ≡ Some m = next_is mails mail (next_outbound (get q.conns k)) some next in
-    let o : owner_of (get q.conns k) ≡ Some c = sym (own ∙ ap (λ (x : Peopled). owner_of (get x.conns k)) is) ∙ its in
-    let there : DownReads (world_in q fs fuse) k = subst (λ (x : Peopled). DownReads (world_in x fs fuse) k) is reads in
-    let read : AreFramesRead (replies_to (slot_in (get r.clients c)) m) =
-        subst (λ (x : Peopled). AreFramesRead (replies_to (slot_in (get x.clients c)) m)) (sym at)
-        (take_reads (world_in q fs fuse) c m (next_outbound (get q.conns k)) (owner_of (get q.conns k)) e o there) in
-    IfOk-weaker result (ClientHears r number c k m new fs fuse) (Received p number k new fs fuse)
-    (λ ls h. subst (λ (x : Peopled). Received x number k new fs fuse ls) (sym is)
-    (client_down (world_in q fs fuse) (world_in r fs fuse) (world_in new fs fuse) number c k m ls e o
-    (ap (λ (x : Peopled). world_in x fs fuse) at
-    ∙ ap (λ (x : FinMap nat_cmp Conn). world_in (with_queues q x) fs fuse) rest) h)) (hears read)

@@ -1,6 +1,6 @@
 -- What goes out is seen as it was meant, where it is read so.
-use Rattle.std.proofs.Common.{◌≡◌, ℕ, Bool, true, cond, List, [], ◌∷◌, Option, Some, Result, Ok, Err, refl, sym, ap, subst}
-use Rattle.std.proofs.Common.{map, ◌∙◌, is_some, OnOk}
+use Rattle.std.proofs.Common.{◌≡◌, ℕ, Bool, true, cond, List, [], ◌∷◌, map, Option, Some, is_some, Result, Ok, Err}
+use Rattle.std.proofs.Common.{OnOk, refl, sym, ap, ◌∙◌, subst}
 use Rattle.room_json.specs.declared.memory.NoMemory.{NoMemory}
 use Rattle.room_replay.specs.Files.{Files}
 use Rattle.room_host.specs.Seen.{host_in}
@@ -12,7 +12,8 @@ use Rattle.room_msg.specs.Frame.{client_frame_in}
 use Rattle.room_msg.specs.Written.{client_text}
 use Rattle.room_msg.specs.declared.messages.ClientMsg.{ClientMsg}
 use Rattle.room_links.specs.declared.outs.Out.{Out}
-use Rattle.room_model.specs.World.{World, Conn, deliver, send_inbound, send_present, is_attached, links_of, inbound_frame}
+use Rattle.room_model.specs.World.{World, Conn, deliver, send_inbound, send_present, is_attached, links_of}
+use Rattle.room_model.specs.World.{inbound_frame}
 use Rattle.room_moves.specs.Parts.{with_conns}
 use Rattle.room_moves.proofs.Parts.{sends}
 use Rattle.room_moves.specs.Reading.{AreFramesRead}
@@ -21,9 +22,9 @@ use Rattle.room_queues.specs.declared.mail.Mail.{Mail}
 use Rattle.room_queues.specs.Calls.{sent}
 use Rattle.room_links.specs.Outs.{written}
 use Rattle.room_model.specs.Server.{Outbound, Pong, Message, Closed}
-use Rattle.room_moves.specs.Reading.{IsOutRead, AreSendsRead, mail_of}
+use Rattle.room_moves.specs.Reading.{AreSendsRead, mail_of}
 use Rattle.room_moves.proofs.Reading.{outs_seen}
-use Rattle.room_queues.specs.Seen.{IsMail, AreMail, outbound_in, outs_in}
+use Rattle.room_queues.specs.Seen.{IsMail, outbound_in, outs_in}
 use Rattle.room_world.specs.Sending.{mail_to, AreSent}
 
 mail_is : (o : ℕ × Outbound) → mail_to (written o) ≡ (o.0, mail_of o.1)
@@ -48,15 +49,15 @@ sent_down os outs mails qs new m e o r =
     e ∙ ap (λ ms. deliver qs (outs_in ms)) (m ∙ ap (map mail_to) o) ∙ ap (deliver qs) (arrived os r)
 
 -- texts of frames go up on a connection that is attached
-pub sent_up : (w : World) (k : ℕ) (frames : List (List ClientMsg)) (texts : List (List ℕ)) (qs new : FinMap nat_cmp Conn)
-    → w.conns ≡ qs → is_attached w k ≡ true → texts ≡ map client_text frames → AreFramesRead frames
-    → new ≡ sent qs k (map client_frame_in texts) (get qs k)
+pub sent_up : (w : World) (k : ℕ) (frames : List (List ClientMsg)) (texts : List (List ℕ))
+    (qs new : FinMap nat_cmp Conn) → w.conns ≡ qs → is_attached w k ≡ true
+    → texts ≡ map client_text frames → AreFramesRead frames → new ≡ sent qs k (map client_frame_in texts) (get qs k)
     → send_inbound w k (map inbound_frame frames) ≡ with_conns w new
 sent_up w k frames texts qs new is at t r e =
     sends w k (map inbound_frame frames)
     ∙ ap (λ b. with_conns w (cond b (sent w.conns k (map inbound_frame frames) (get w.conns k)) w.conns)) at
     ∙ ap (λ us. with_conns w (sent w.conns k us (get w.conns k)))
-      (sym (ap (map client_frame_in) t ∙ frames_seen frames r))
+    (sym (ap (map client_frame_in) t ∙ frames_seen frames r))
     ∙ ap (λ x. with_conns w (sent x k (map client_frame_in texts) (get x k))) is
     ∙ ap (with_conns w) (sym e)
 
@@ -67,8 +68,8 @@ pub present_sent : (p q : Peopled) (new : FinMap nat_cmp Conn) (present : Option
     → ((w : World) → w.conns ≡ q.conns → is_attached w k ≡ attached
     → OnOk result (send_inbound w k (map inbound_frame frames) ≡ with_conns w new))
     → OnOk result (Becomes p (record q { conns = new }) (λ w. send_present w present frames))
-present_sent p q new present k attached frames (Err e) is some at sends = tt
-present_sent p q new present k attached frames (Ok x) is some at sends = λ fs fuse.
+present_sent p q new present k attached frames (Err e) is some at up = tt
+present_sent p q new present k attached frames (Ok x) is some at up = λ fs fuse.
     sym (ap (λ p. send_present (world_in p fs fuse) present frames) is
     ∙ ap (λ o. send_present (world_in q fs fuse) o frames) some
-    ∙ sends (world_in q fs fuse) refl (sym (at fs)))
+    ∙ up (world_in q fs fuse) refl (sym (at fs)))

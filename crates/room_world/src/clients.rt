@@ -53,12 +53,7 @@ impl<T: Tree, D: Stopping> World<T, D> {
     }
 
     /// Opens a batch.
-    pub(crate) fn begin(
-        &mut self,
-        alloc: Global,
-        number: u64,
-        c: u64,
-    ) -> Result<Names, NoMemory>
+    pub(crate) fn begin(&mut self, alloc: Global, number: u64, c: u64) -> Result<Names, NoMemory>
         ensures does { IfOk result (Does self.old self.new number (OfClient c model.Begin)) }
         ensures opened { self.new.opened ≡ self.old.opened }
         ensures hosting { self.new.hosting ≡ self.old.hosting }
@@ -68,12 +63,7 @@ impl<T: Tree, D: Stopping> World<T, D> {
     }
 
     /// Ends the open batch.
-    pub(crate) fn end(
-        &mut self,
-        alloc: Global,
-        number: u64,
-        c: u64,
-    ) -> Result<Names, NoMemory>
+    pub(crate) fn end(&mut self, alloc: Global, number: u64, c: u64) -> Result<Names, NoMemory>
         ensures does { IfOk result (Does self.old self.new number (OfClient c model.End)) }
         ensures opened { self.new.opened ≡ self.old.opened }
         ensures hosting { self.new.hosting ≡ self.old.hosting }
@@ -83,12 +73,7 @@ impl<T: Tree, D: Stopping> World<T, D> {
     }
 
     /// Takes the last entry of the history back.
-    pub(crate) fn undo(
-        &mut self,
-        alloc: Global,
-        number: u64,
-        c: u64,
-    ) -> Result<Names, NoMemory>
+    pub(crate) fn undo(&mut self, alloc: Global, number: u64, c: u64) -> Result<Names, NoMemory>
         ensures does { IfOk result (Does self.old self.new number (OfClient c model.Undo)) }
         ensures opened { self.new.opened ≡ self.old.opened }
         ensures hosting { self.new.hosting ≡ self.old.hosting }
@@ -98,12 +83,7 @@ impl<T: Tree, D: Stopping> World<T, D> {
     }
 
     /// Takes the last undo back.
-    pub(crate) fn redo(
-        &mut self,
-        alloc: Global,
-        number: u64,
-        c: u64,
-    ) -> Result<Names, NoMemory>
+    pub(crate) fn redo(&mut self, alloc: Global, number: u64, c: u64) -> Result<Names, NoMemory>
         ensures does { IfOk result (Does self.old self.new number (OfClient c model.Redo)) }
         ensures opened { self.new.opened ≡ self.old.opened }
         ensures hosting { self.new.hosting ≡ self.old.hosting }
@@ -113,12 +93,7 @@ impl<T: Tree, D: Stopping> World<T, D> {
     }
 
     /// Begins a pause.
-    pub(crate) fn pause(
-        &mut self,
-        alloc: Global,
-        number: u64,
-        c: u64,
-    ) -> Result<Names, NoMemory>
+    pub(crate) fn pause(&mut self, alloc: Global, number: u64, c: u64) -> Result<Names, NoMemory>
         ensures does { IfOk result (Does self.old self.new number (OfClient c model.Pause)) }
         ensures opened { self.new.opened ≡ self.old.opened }
         ensures hosting { self.new.hosting ≡ self.old.hosting }
@@ -128,12 +103,7 @@ impl<T: Tree, D: Stopping> World<T, D> {
     }
 
     /// Ends a pause.
-    pub(crate) fn resume(
-        &mut self,
-        alloc: Global,
-        number: u64,
-        c: u64,
-    ) -> Result<Names, NoMemory>
+    pub(crate) fn resume(&mut self, alloc: Global, number: u64, c: u64) -> Result<Names, NoMemory>
         ensures does { IfOk result (Does self.old self.new number (OfClient c model.Resume)) }
         ensures opened { self.new.opened ≡ self.old.opened }
         ensures hosting { self.new.hosting ≡ self.old.hosting }
@@ -143,12 +113,7 @@ impl<T: Tree, D: Stopping> World<T, D> {
     }
 
     /// Forgets what can be undone and redone.
-    pub(crate) fn clear(
-        &mut self,
-        alloc: Global,
-        number: u64,
-        c: u64,
-    ) -> Result<Names, NoMemory>
+    pub(crate) fn clear(&mut self, alloc: Global, number: u64, c: u64) -> Result<Names, NoMemory>
         ensures does { IfOk result (Does self.old self.new number (OfClient c model.Clear)) }
         ensures opened { self.new.opened ≡ self.old.opened }
         ensures hosting { self.new.hosting ≡ self.old.hosting }

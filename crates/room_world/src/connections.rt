@@ -3,7 +3,8 @@ ghost use Rattle.std.specs.Prelude.{◌≡◌, ◌≤◌, ◌+◌, ◌<◌, ◌^
 ghost use Rattle.std.specs.FinMap.{get};
 ghost use Rattle.room_replay.specs.Files.{Files};
 ghost use Rattle.room_model.specs.Lines.{OfConnection, Down, Gone, Raw, Link};
-ghost use Rattle.room_model.specs.World.{World as Model, Fuse, client_takes, link_takes, owner_of, saying, slot_in, step};
+ghost use Rattle.room_model.specs.World.{World as Model, Fuse, client_takes, link_takes, owner_of, saying, slot_in};
+ghost use Rattle.room_model.specs.World.{step};
 ghost use Rattle.room_moves.specs.Reading.{AreFramesRead, DownReads, GoneReads, replies_to};
 ghost use Rattle.room_queues.specs.Seen.{IsMail, outbound_in};
 ghost use Rattle.room_host.specs.Rests.{SameFiles};
@@ -108,10 +109,10 @@ impl<T: Tree, D: Stopping> World<T, D> {
         let Some(mail) = self.queues.take(k) else {
             return Ok(Seq::new(alloc));
         };
-        match owner {
-            Some(c) => self.take(alloc, number, c, k, &mail),
-            None => only(alloc, link_line(alloc, k, &mail)?),
-        }
+        let Some(c) = owner else {
+            return only(alloc, link_line(alloc, k, &mail)?);
+        };
+        self.take(alloc, number, c, k, &mail)
     }
 
     /// The client of a connection, if one dialled it.

@@ -5,6 +5,7 @@ mod clients;
 mod connections;
 mod dialling;
 mod draining;
+mod opening;
 mod sending;
 mod serving;
 mod steps;

@@ -1,4 +1,4 @@
-use Rattle.std.proofs.Common.{◌∙◌, sym}
+use Rattle.std.proofs.Common.{◌∙◌}
 use Rattle.std.proofs.lemmas.Result.{on_ok_weaker}
 use Rattle.room_world.proofs.Sends.{sent_up}
 use Rattle.room_world.proofs.sending.send_up.Goals as goal

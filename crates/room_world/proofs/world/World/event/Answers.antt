@@ -8,5 +8,6 @@ pub returns-clause-does : goal.returns-clause-does
 returns-clause-does g c =
     let i = c.self.inside in
     let q : Peopled = record { hosting = i.host; clients = i.slots; conns = i.queues; opened = i.opened } in
-    called c.args.self.now q c.event.new.self c.args.number c.args.c (lines.Event c.args.e.now) c.in_ok-line.line c.lines_of.result
+    called c.args.self.now q c.event.new.self c.args.number c.args.c
+    (lines.Event c.args.e.now) c.in_ok-line.line c.lines_of.result
     (sym c.self.view_is) c.in_ok-line.ensures c.lines_of.ensures

@@ -1,6 +1,5 @@
-use Rattle.std.proofs.Common.{◌∙◌, ap, sym, subst, List, ℕ}
-use Rattle.std.proofs.lemmas.Result.{on_ok_weaker}
-use Rattle.room_world.specs.Seen.{Peopled, world_in}
+use Rattle.std.proofs.Common.{sym}
+use Rattle.room_world.specs.Seen.{Peopled}
 use Rattle.room_world.proofs.Sends.{present_sent}
 use Rattle.room_world.proofs.world.World.send_present.Goals as goal
 
