@@ -4,8 +4,12 @@ pub mod Connecting
 pub mod Dials
 pub mod Drains
 pub mod Frames
+pub mod Joining
+pub mod Leaving
 pub mod Moments
 pub mod Receiving
+pub mod Runs
 pub mod Sends
 pub mod Serves
 pub mod Staying
+pub mod Telling

@@ -1,11 +1,13 @@
 //! A drain: what waits is received, one frame after the other, until nothing waits.
-ghost use Rattle.std.specs.Prelude.{◌≡◌, ◌++◌, true, IfOk, OnOk};
+ghost use Rattle.std.specs.Prelude.{◌≡◌, ◌++◌, true, IfOk, IfErr, OnOk};
 ghost use Rattle.room_model.specs.Lines as model;
+ghost use Rattle.room_host.specs.Faults.{HasDiskCause, IsWhole};
 ghost use Rattle.room_host.specs.Rests.{IsKept, Rests};
 ghost use Rattle.room_moves.specs.Reading.{NextReads, DrainReads};
 ghost use Rattle.room_world.specs.Did.{DoesOn};
-ghost use Rattle.room_world.specs.Moving.{Moves};
+ghost use Rattle.room_world.specs.Moving.{Moves, TriesNext};
 ghost use Rattle.room_world.specs.Seen.{world_on};
+ghost use Rattle.room_world.specs.Trying.{TriesOn};
 
 use crate::world::World;
 use room_fuse::Stopping;
@@ -15,7 +17,7 @@ use room_tree::Tree;
 use std::alloc::Global;
 
 /// Appends lines.
-fn append(lines: &mut Names, more: Names) -> Result<(), NoMemory>
+pub(crate) fn append(lines: &mut Names, more: Names) -> Result<(), NoMemory>
     ensures { OnOk result (lines.new ≡ lines.old ++ more) }
 {
     for line in more.into_vec() {
@@ -46,6 +48,11 @@ impl<T: Tree, D: Stopping> World<T, D> {
             (IsKept (D.seen disk.new) (D.images disk.new (D.moment disk.new)) self.new.hosting.server) }
         ensures rests { D.tells ≡ true → D.stops ≡ true → OnOk result (Rests D.seen D.stopped D.leaves disk.new) }
         ensures opened { self.new.opened ≡ self.old.opened }
+        ensures images { D.tells ≡ true → D.stops ≡ true →
+            TriesNext D.seen D.armed D.way D.moment D.images self.old disk.old disk.new }
+        ensures went { D.went disk.old disk.new }
+        ensures cause { HasDiskCause D.faults D.inner_faults disk.old disk.new result }
+        ensures whole { D.tells ≡ true → IfErr result IsWhole }
     {
         if let Some(k) = self.queues.least_inbound() {
             return Ok(Some(self.up(alloc, disk, number, k)?));
@@ -76,6 +83,11 @@ impl<T: Tree, D: Stopping> World<T, D> {
             (IsKept (D.seen disk.new) (D.images disk.new (D.moment disk.new)) self.new.hosting.server) }
         ensures rests { D.tells ≡ true → D.stops ≡ true → OnOk result (Rests D.seen D.stopped D.leaves disk.new) }
         ensures opened { self.new.opened ≡ self.old.opened }
+        ensures images { D.tells ≡ true → D.stops ≡ true →
+            TriesOn D.seen D.armed D.way D.moment D.images self.old disk.old disk.new number (model.Drain n) }
+        ensures went { D.went disk.old disk.new }
+        ensures cause { HasDiskCause D.faults D.inner_faults disk.old disk.new result }
+        ensures whole { D.tells ≡ true → IfErr result IsWhole }
     {
         let mut lines = Seq::new(alloc);
         let mut left = n;

@@ -1,6 +1,7 @@
 //! A world of a schedule: clients, what waits between them and the server, and a server that stops.
 #![tactic(auto)]
 
+mod apart;
 mod clients;
 mod connections;
 mod dialling;

@@ -1,5 +1,6 @@
 //! What a line of a schedule does.
-ghost use Rattle.std.specs.Prelude.{◌≡◌, ◌≤◌, ◌+◌, ◌<◌, ◌^◌, true, Some, IfOk, OnOk};
+ghost use Rattle.std.specs.Prelude.{◌≡◌, ◌≤◌, ◌+◌, ◌<◌, ◌^◌, true, Some, IfOk, IfErr, OnOk};
+ghost use Rattle.room_host.specs.Faults.{HasDiskCause, IsWhole};
 ghost use Rattle.room_host.specs.Rests.{IsKept, Rests};
 ghost use Rattle.room_model.specs.Lines as model;
 ghost use Rattle.room_moves.specs.Reading.{Reads};
@@ -7,15 +8,14 @@ ghost use Rattle.room_script.specs.Told.{line_of};
 ghost use Rattle.room_world.specs.Did.{DoesOn};
 ghost use Rattle.room_world.specs.Lines.{IsRunnable, stop_in};
 ghost use Rattle.room_world.specs.Seen.{world_on};
+ghost use Rattle.room_world.specs.Trying.{TriesOn};
 
 use crate::world::World;
 use room_disk::Stop;
 use room_fuse::Stopping;
 use room_host::HostFault;
-use room_json::{Names, Seq};
-use room_script::{How, Line, Spot};
-use room_slots::Question;
-use room_store::Limits;
+use room_json::Names;
+use room_script::{How, Line};
 use room_tree::Tree;
 use std::alloc::Global;
 
@@ -45,7 +45,7 @@ impl<T: Tree, D: Stopping> World<T, D> {
         requires kept { D.tells ≡ true
             → IsKept (D.seen disk.old) (D.images disk.old (D.moment disk.old)) self.old.hosting.server }
         requires rests { D.tells ≡ true → D.stops ≡ true → Rests D.seen D.stopped D.leaves disk.old }
-        requires read { D.tells ≡ true → D.stops ≡ true →(l : model.Line) → line_of line.now ≡ Some l
+        requires read { D.tells ≡ true → D.stops ≡ true → (l : model.Line) → line_of line.now ≡ Some l
             → Reads (world_on D.seen D.armed D.way self.old disk.old) number l }
 
         ensures does { D.tells ≡ true → D.stops ≡ true → (l : model.Line) → line_of line.now ≡ Some l → IfOk result
@@ -54,56 +54,20 @@ impl<T: Tree, D: Stopping> World<T, D> {
             (IsKept (D.seen disk.new) (D.images disk.new (D.moment disk.new)) self.new.hosting.server) }
         ensures rests { D.tells ≡ true → D.stops ≡ true → OnOk result (Rests D.seen D.stopped D.leaves disk.new) }
         ensures opened { self.new.opened ≤ self.old.opened + 1 }
+        ensures images { D.tells ≡ true → D.stops ≡ true → (l : model.Line) → line_of line.now ≡ Some l →
+            TriesOn D.seen D.armed D.way D.moment D.images self.old disk.old disk.new number l }
+        ensures went { D.went disk.old disk.new }
+        ensures cause { HasDiskCause D.faults D.inner_faults disk.old disk.new result }
+        ensures whole { D.tells ≡ true → IfErr result IsWhole }
     {
         match line {
-            Line::Dial(c) => Ok(self.dial(alloc, number, u64::from(*c))?),
-            Line::Edit(c, e) => Ok(self.edit(alloc, number, u64::from(*c), e)?),
-            Line::Begin(c) => Ok(self.begin(alloc, number, u64::from(*c))?),
-            Line::End(c) => Ok(self.end(alloc, number, u64::from(*c))?),
-            Line::Undo(c) => Ok(self.undo(alloc, number, u64::from(*c))?),
-            Line::Redo(c) => Ok(self.redo(alloc, number, u64::from(*c))?),
-            Line::Pause(c) => Ok(self.pause(alloc, number, u64::from(*c))?),
-            Line::Resume(c) => Ok(self.resume(alloc, number, u64::from(*c))?),
-            Line::Clear(c) => Ok(self.clear(alloc, number, u64::from(*c))?),
-            Line::Presence {
-                client,
-                patch,
-                in_history,
-            } => Ok(self.presence(alloc, number, u64::from(*client), patch, *in_history)?),
-            Line::Event(c, e) => Ok(self.event(alloc, number, u64::from(*c), e)?),
-            Line::Flush(c) => Ok(self.flush(alloc, number, u64::from(*c))?),
-            Line::Resend(c) => Ok(self.resend(alloc, number, u64::from(*c))?),
             Line::Up(k) => self.up(alloc, disk, number, *k),
-            Line::Down(k) => Ok(self.down(alloc, number, *k)?),
             Line::Drain(n) => self.drain(alloc, disk, number, *n),
-            Line::Cut(c) => Ok(self.cut(alloc, number, u64::from(*c))?),
-            Line::Gone(k) => Ok(self.gone(alloc, number, *k)?),
             Line::Stop => self.stop(alloc, disk, number),
             Line::Start => self.start(alloc, disk, number),
             Line::Fuse(n, how) => self.fuse(alloc, disk, number, *n, stop_of(how)),
             Line::Compact => self.compact(alloc, disk, number),
-            Line::Limit(n, m) => Ok(self.limit(
-                alloc,
-                number,
-                Limits {
-                    updates: *n,
-                    sessions: *m,
-                },
-            )),
-            Line::Link => Ok(self.link(alloc, number)?),
-            Line::Raw(k, text) => Ok(self.raw(alloc, number, *k, text)?),
-            Line::Show(Spot::Client(c)) => {
-                Ok(self.ask(alloc, number, u64::from(*c), Question::Show)?)
-            },
-            Line::Show(Spot::Server) => Ok(self.show(alloc, number)?),
-            Line::Brief(Spot::Client(c)) => {
-                Ok(self.ask(alloc, number, u64::from(*c), Question::Brief)?)
-            },
-            Line::Brief(Spot::Server) => Ok(self.brief(alloc, number)?),
-            Line::Others(c) => Ok(self.ask(alloc, number, u64::from(*c), Question::Others)?),
-            Line::History(c) => Ok(self.ask(alloc, number, u64::from(*c), Question::History)?),
-            Line::Notices(c) => Ok(self.ask(alloc, number, u64::from(*c), Question::Notices)?),
-            Line::Take(..) => Ok(Seq::new(alloc)),
+            _ => Ok(self.apart(alloc, number, line)?),
         }
     }
 }
