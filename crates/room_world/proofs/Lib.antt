@@ -8,7 +8,6 @@ pub mod Joining
 pub mod Leaving
 pub mod Moments
 pub mod Receiving
-pub mod Runs
 pub mod Sends
 pub mod Serves
 pub mod Staying

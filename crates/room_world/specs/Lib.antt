@@ -3,7 +3,6 @@ pub mod Did
 pub mod Kinds
 pub mod Lines
 pub mod Moving
-pub mod Running
 pub mod Seen
 pub mod Sending
 pub mod Serving
