@@ -1,0 +1,14 @@
+pub mod Begun
+pub mod Calling
+pub mod Connecting
+pub mod Dials
+pub mod Drains
+pub mod Frames
+pub mod Joining
+pub mod Leaving
+pub mod Moments
+pub mod Receiving
+pub mod Sends
+pub mod Serves
+pub mod Staying
+pub mod Telling

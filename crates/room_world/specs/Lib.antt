@@ -1,0 +1,9 @@
+pub mod Codes
+pub mod Did
+pub mod Kinds
+pub mod Lines
+pub mod Moving
+pub mod Seen
+pub mod Sending
+pub mod Serving
+pub mod Trying
