@@ -29,12 +29,7 @@ pub(crate) fn append(lines: &mut Names, more: Names) -> Result<(), NoMemory>
 impl<T: Tree, D: Stopping> World<T, D> {
     /// The next frame that waits is received: by the server, on the least connection where something goes up, else by the
     /// client or the link of the least one where something goes down. None where nothing waits.
-    fn once(
-        &mut self,
-        alloc: Global,
-        disk: &mut D,
-        number: u64,
-    ) -> Result<Option<Names>, HostFault>
+    fn once(&mut self, alloc: Global, disk: &mut D, number: u64) -> Result<Option<Names>, HostFault>
         requires kept { D.tells ≡ true
             → IsKept (D.seen disk.old) (D.images disk.old (D.moment disk.old)) self.old.hosting.server }
         requires rests { D.tells ≡ true → D.stops ≡ true → Rests D.seen D.stopped D.leaves disk.old }
