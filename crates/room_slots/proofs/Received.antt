@@ -104,7 +104,7 @@ heard line c k p y o t lines mail h is =
           let a = answers w line c k p r (given_of y o) h in (
             ap (λ (s : Stepped). s.lines) e ∙ a.0 ∙ sym is,
             ap (λ (s : Stepped). s.world) e ∙ a.1
-            ∙ ap (λ fs. send_inbound (with_slot w c (heard_as p (given_of y o))) k (map inbound_frame fs)) frames,
+                ∙ ap (λ fs. send_inbound (with_slot w c (heard_as p (given_of y o))) k (map inbound_frame fs)) frames,
           ),
     )
 
@@ -183,7 +183,7 @@ heard_by old new line c k m p q (Heard lines replies) there put hears = (
       let a = hears.1 w in
       let here : slot w c ≡ p = ap (λ ps. slot_in (get ps c)) is ∙ there in
       let after = ap (λ v. send_inbound v k (map inbound_frame (replies_to p m))) (put_world w c q old new is put)
-        ∙ ap (λ s. sending w new k (replies_to s m)) (sym there) in
+      ∙ ap (λ s. sending w new k (replies_to s m)) (sym there) in
       subst (Comes w line c k m (sending w new k (replies_to (slot_in (get old c)) m)) lines)
       (sym here) (a.0, a.1 ∙ after),
 )

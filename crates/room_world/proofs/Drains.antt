@@ -34,18 +34,18 @@ begins w number n r = record { lines_are = refl; world_is = refl; reads = r }
 pub runs_out : (w v : World) (number n : ℕ) (so_far : List (List ℕ)) → Drains w number n so_far v zero
     → Did (step w number (lines.Drain n)) so_far v
 runs_out w v number n so_far d = record {
-    lines_are = sym d.lines_are ∙ ap (λ o. so_far ++ o.lines) (drains_nothing v number) ∙ append-nil so_far;
-    world_is = sym d.world_is ∙ ap (λ o. o.world) (drains_nothing v number);
-  }
+  lines_are = sym d.lines_are ∙ ap (λ o. so_far ++ o.lines) (drains_nothing v number) ∙ append-nil so_far;
+  world_is = sym d.world_is ∙ ap (λ o. o.world) (drains_nothing v number);
+}
 
 -- nothing waits
 
 pub ends : (w v u : World) (number n left : ℕ) (so_far : List (List ℕ)) → Drains w number n so_far v left
     → Moves v number u None → Did (step w number (lines.Drain n)) so_far u
 ends w v u number n left so_far d m = record {
-    lines_are = sym d.lines_are ∙ ap (λ o. so_far ++ o.lines) (drain_ends v number left m.0) ∙ append-nil so_far;
-    world_is = sym d.world_is ∙ ap (λ o. o.world) (drain_ends v number left m.0) ∙ sym m.1;
-  }
+  lines_are = sym d.lines_are ∙ ap (λ o. so_far ++ o.lines) (drain_ends v number left m.0) ∙ append-nil so_far;
+  world_is = sym d.world_is ∙ ap (λ o. o.world) (drain_ends v number left m.0) ∙ sym m.1;
+}
 
 -- a move is made
 
@@ -54,9 +54,9 @@ on_suc : (w v u : World) (number n left : ℕ) (so_far more : List (List ℕ)) �
 on_suc w v u number n left so_far more d m =
     let one = drains_one v number left in record {
       lines_are = append_assoc so_far more _
-        ∙ ap (λ ls. so_far ++ (ls ++ (drain u number left).lines)) (sym m.lines_are)
-        ∙ ap (λ x. so_far ++ ((drain_once v number).lines ++ (drain x number left).lines)) (sym m.world_is)
-        ∙ ap (λ o. so_far ++ o.lines) (sym one) ∙ d.lines_are;
+          ∙ ap (λ ls. so_far ++ (ls ++ (drain u number left).lines)) (sym m.lines_are)
+          ∙ ap (λ x. so_far ++ ((drain_once v number).lines ++ (drain x number left).lines)) (sym m.world_is)
+          ∙ ap (λ o. so_far ++ o.lines) (sym one) ∙ d.lines_are;
       world_is = ap (λ x. (drain x number left).world) (sym m.world_is) ∙ ap (λ o. o.world) (sym one) ∙ d.world_is;
       reads = subst (λ x. DrainReads x number left) m.world_is d.reads.1;
     }

@@ -143,7 +143,7 @@ returns-in_err-end-in-Err-clause-whole g c told =
     let here : (f : ℕ) → d.images old (d.moment old) f (d.seen old f) = λ f. g.met.D.Disk.seen_is_image old f told in
     let k = c.requires.kept told in
     let recovers : IsWhole c.of_store.result = subst IsWhole (sym c.of_store.ensures)
-      (lying_whole d.seen d.moment d.images old here k c.in-Err.fault (c.in-Err.ensures.fault told))
+    (lying_whole d.seen d.moment d.images old here k c.in-Err.fault (c.in-Err.ensures.fault told))
     in
     let fault : IsWhole c.in_err-end-in-Err.field-0.0 = c.in_err-end-in-Err.ensures.whole recovers in
     search (fault, rules)
