@@ -1,0 +1,52 @@
+-- The headline: what holds of a run at each of its lines.
+use Rattle.std.specs.Prelude.{◌≡◌, ℕ, List, [], ◌∷◌, ◌++◌, Option, Some}
+use Rattle.room_nodes.specs.Shape.{Nodes}
+use Rattle.room_nodes.specs.Steps.{fold}
+use Rattle.room_log.specs.Log.{State, Entry, Update, tree_after, tree_at, state_after}
+use Rattle.room_log.specs.Follows.{IsValidLog, IsValidState}
+use Rattle.room_model.specs.Account.{Batch, shown, unacknowledged}
+use Rattle.room_model.specs.Lines.{Line}
+use Rattle.room_model.specs.World.{account, opening, state_in}
+use Rattle.room_model.specs.Run.{Run, run, opened, IsUndisturbed}
+use Rattle.room_laws.specs.Laws.{ShowsLog, Kept}
+use Rattle.room_laws.specs.Undoing.{TakesBack, bodies_after}
+use Rattle.room_laws.specs.Validity.{AreLines}
+use Rattle.room_run.specs.Running.{after_lines}
+
+-- the lines in two parts; in between a client shows the tree t, on which the batch `made` is made. It and what takes it back are
+-- in the log, and nothing between them touches its cells: then the tree is as if neither had been
+pub record Undoes (s : State) (done : List (ℕ × Line)) (c : ℕ) : Type 0 where
+  pub restores : (ls ms : List (ℕ × Line)) (t : Nodes) (made back : Batch) (us vs ws : List Update) (b u : Update)
+      → ls ++ ms ≡ done → shown (account (run (opened s) ls).world c) ≡ Some t
+      → TakesBack s (run (opened s) done) c t made back us vs ws b u
+      → tree_after s.tree (us ++ b ∷ (vs ++ u ∷ [])) ≡ fold (tree_after s.tree us) (bodies_after vs)
+
+-- of a client that alone was ever given its actor
+pub record HoldsOf (s : State) (done : List (ℕ × Line)) (c : ℕ) : Type 0 where
+  -- each batch once, and those that were acknowledged
+  pub once : Kept s (run (opened s) done) c
+  -- what it shows
+  pub shows : (t : Nodes) → (account (run (opened s) done).world c).confirmed ≡ Some t
+      → ShowsLog s (run (opened s) done) c t
+  -- with nothing unacknowledged, the tree after the updates that it took
+  pub settled : (t : Nodes) → (account (run (opened s) done).world c).confirmed ≡ Some t
+      → unacknowledged (account (run (opened s) done).world c) ≡ 0
+      → shown (account (run (opened s) done).world c)
+      ≡ Some (tree_at s (run (opened s) done).log (account (run (opened s) done).world c).n)
+  pub undone : Undoes s done c
+
+-- after these lines
+pub record Holds (s : State) (done : List (ℕ × Line)) : Type 0 where
+  -- each entry of the log follows from those before it, and the server stands where the log leads
+  pub log : IsValidLog s (run (opened s) done).log
+  pub state : state_in (after_lines (opening s) done).host ≡ state_after s (run (opened s) done).log
+  pub clients : (c : ℕ) → IsUndisturbed (run (opened s) done) c → HoldsOf s done c
+
+-- at every line: what was there before a line stays, with what it adds behind it
+pub record Headline (s : State) (ls : List (ℕ × Line)) : Type 0 where
+  pub holds : (done left : List (ℕ × Line)) → done ++ left ≡ ls → Holds s done
+  pub grows : (done left : List (ℕ × Line)) → done ++ left ≡ ls
+      → (more : List Entry) × ((run (opened s) ls).log ≡ (run (opened s) done).log ++ more)
+
+abbrev pub EverywhereHolds : Type 0
+EverywhereHolds = (s : State) (ls : List (ℕ × Line)) → IsValidState s → AreLines ls → Headline s ls
