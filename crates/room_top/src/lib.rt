@@ -1,23 +1,13 @@
-//! The top call: reads a schedule, runs it on a server and its clients, and writes the report.
+//! The top call: the words of a command, its input and a disk in; a report, a status and a durable room out.
 #![tactic(auto)]
 
-mod client;
-mod frames;
-mod laws;
-mod lines;
-mod messages;
-mod numbers;
-mod parts;
-mod queues;
-mod reader;
-mod report;
-mod roots;
-mod server;
-mod table;
-#[cfg(test)]
-mod tests;
+mod commands;
+mod input;
+mod reporting;
+mod showing;
+mod texts;
 mod top;
-mod world;
+mod wanting;
 
-pub use laws::each_shows;
 pub use top::run;
+pub use wanting::{Wants, wants};
