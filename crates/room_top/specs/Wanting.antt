@@ -1,5 +1,5 @@
 -- What a command wants of the outside.
-use Rattle.std.specs.Prelude.{◌≡◌, Bool, false, List, map, Option, Some, None, option_map, option_and_then}
+use Rattle.std.specs.Prelude.{◌≡◌, Bool, false, List, map, Option, Some, None, option_and_then}
 use Rattle.std.specs.Prelude.{String, string_bytes}
 use Rattle.std.specs.Global.{Global}
 use Rattle.room_words.specs.Words.{Text, Told, folder_of, address_of, file_of, serves, command_of}
@@ -9,9 +9,6 @@ Words = List (String Global)
 
 abbrev pub told_by : Words → Option Told
 told_by words = command_of (map string_bytes words)
-
-abbrev pub bytes_in : Option (String Global) → Option Text
-bytes_in word = option_map string_bytes word
 
 abbrev pub folder_in : Words → Option Text
 folder_in words = option_and_then folder_of (told_by words)

@@ -1,0 +1,4 @@
+mod Ending
+mod Fronts
+mod Recovering
+mod Tasks
