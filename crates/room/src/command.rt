@@ -1,20 +1,17 @@
 //! The command on the words of a call, whether they were read or not.
-ghost use Rattle.std.specs.Prelude.{◌≡◌, ◌⊎◌, ◌↔◌, IsTrue, None};
+ghost use Rattle.std.specs.Prelude.{◌≡◌, ◌↔◌, IsTrue, None};
 ghost use Rattle.std.specs.IoError.{error_kind};
-ghost use Rattle.std.specs.Io.KnownBytes.{Appends, IsAtEnd};
 ghost use Rattle.std.specs.Process.{exit_status};
 ghost use Rattle.room_edge.specs.Causes.{Rose};
 ghost use Rattle.room_replay.specs.Files.{New};
 ghost use Rattle.room_top.specs.Commands.{command_in, Reads};
 ghost use Rattle.room_top.specs.Ending.{EndsAs, IsComplete};
-ghost use Rattle.room_top.specs.Outcome.{is_status, read_fault, usage, TakesAtMost};
 ghost use Rattle.room_top.specs.Wanting.{folder_in};
-ghost use Rattle.room.specs.Words.{words_of, IsOutOfMemory};
+ghost use Rattle.room.specs.Words.{words_of, Answers, IsOutOfMemory};
 
 use room_disk::SureDisk;
 use room_edge::{Sink, Source};
 use room_fuse::Fused;
-use room_json::NoMemory;
 use room_real::Folder;
 use room_top::{run, wants};
 use room_tree::Tree;
@@ -39,22 +36,14 @@ fn run_in_memory<T: Tree, S: Source, K: Sink>(
     source: &mut S,
     sink: &mut K,
 ) -> u8
-    ensures known { is_status result ≡ true }
+    ensures answers { Answers words.now (S.left source.old) (S.left source.new) (K.written sink.old)
+        (K.written sink.new) (S.faults source.old) (S.faults source.new) (K.faults sink.old) (K.faults sink.new) result }
+    ensures unread { (Reads (command_in words.now) → ⊥) → source.new ≡ source.old }
     ensures ends { EndsAs (command_in words.now) New (Rose (S.faults source.old) (S.faults source.new))
         (S.left source.old) (K.written sink.old) (K.written sink.new) result }
     ensures complete { (Rose (S.faults source.old) (S.faults source.new) → ⊥)
         → (Rose (K.faults sink.old) (K.faults sink.new) → ⊥)
         → IsComplete (command_in words.now) New (S.left source.old) result }
-    ensures source_fault { result ≡ 3 → Rose (S.faults source.old) (S.faults source.new)
-        × Appends (K.written sink.old) (K.written sink.new) read_fault }
-    ensures sink_fault { result ≡ 4 → Rose (K.faults sink.old) (K.faults sink.new) }
-    ensures usage { result ≡ 2 → (command_in words.now ≡ None)
-        × Appends (K.written sink.old) (K.written sink.new) usage }
-    ensures words { command_in words.now ≡ None → (result ≡ 2) ⊎ (result ≡ 1) ⊎ (result ≡ 4) }
-    ensures end { (result ≡ 0) ⊎ (result ≡ 5) ⊎ (result ≡ 6) ⊎ (result ≡ 7) → Reads (command_in words.now)
-        → IsAtEnd (S.left source.new) }
-    ensures limit { TakesAtMost 16777217 (S.left source.old) (S.left source.new) }
-    ensures unread { (Reads (command_in words.now) → ⊥) → source.new ≡ source.old }
 {
     let mut disk = Fused::new(alloc, SureDisk::new(alloc));
     run::<T, S, K, SureDisk>(alloc, words, source, sink, &mut disk)
@@ -68,44 +57,47 @@ fn run_in_folder<T: Tree, S: Source, K: Sink, R: Files<File = File> + Drop>(
     source: &mut S,
     sink: &mut K,
 ) -> u8
-    ensures known { is_status result ≡ true }
-    ensures source_fault { result ≡ 3 → Rose (S.faults source.old) (S.faults source.new)
-        × Appends (K.written sink.old) (K.written sink.new) read_fault }
-    ensures sink_fault { result ≡ 4 → Rose (K.faults sink.old) (K.faults sink.new) }
-    ensures usage { result ≡ 2 → (command_in words.now ≡ None)
-        × Appends (K.written sink.old) (K.written sink.new) usage }
-    ensures words { command_in words.now ≡ None → (result ≡ 2) ⊎ (result ≡ 1) ⊎ (result ≡ 4) }
-    ensures end { (result ≡ 0) ⊎ (result ≡ 5) ⊎ (result ≡ 6) ⊎ (result ≡ 7) → Reads (command_in words.now)
-        → IsAtEnd (S.left source.new) }
-    ensures limit { TakesAtMost 16777217 (S.left source.old) (S.left source.new) }
+    ensures answers { Answers words.now (S.left source.old) (S.left source.new) (K.written sink.old)
+        (K.written sink.new) (S.faults source.old) (S.faults source.new) (K.faults sink.old) (K.faults sink.new) result }
     ensures unread { (Reads (command_in words.now) → ⊥) → source.new ≡ source.old }
 {
     let mut disk = Fused::new(alloc, folder);
     run::<T, S, K, Folder<R>>(alloc, words, source, sink, &mut disk)
 }
 
-/// Runs words on what they want.
+/// Runs words on what they want; the status is 1, with nothing read or written, where memory is wanting for that.
 fn run_on<T: Tree, S: Source, K: Sink, R: Files<File = File> + Drop>(
     alloc: Global,
     system: R,
     words: &[String],
     source: &mut S,
     sink: &mut K,
-) -> Result<u8, NoMemory>
+) -> u8
+    ensures answers { Answers words.now (S.left source.old) (S.left source.new) (K.written sink.old)
+        (K.written sink.new) (S.faults source.old) (S.faults source.new) (K.faults sink.old) (K.faults sink.new) result }
+    ensures unread { (Reads (command_in words.now) → ⊥) → source.new ≡ source.old }
+    ensures ends { folder_in words.now ≡ None → EndsAs (command_in words.now) New (Rose (S.faults source.old) (S.faults source.new))
+        (S.left source.old) (K.written sink.old) (K.written sink.new) result }
+    ensures complete { folder_in words.now ≡ None → (Rose (S.faults source.old) (S.faults source.new) → ⊥)
+        → (Rose (K.faults sink.old) (K.faults sink.new) → ⊥)
+        → IsComplete (command_in words.now) New (S.left source.old) result }
 {
-    match wants(alloc, words)?.folder {
-        Some(path) => {
-            let folder = Folder::new(alloc, system, path);
-            Ok(run_in_folder::<T, S, K, R>(alloc, folder, words, source, sink))
-        }
-        None => Ok(run_in_memory::<T, S, K>(alloc, words, source, sink)),
+    match wants(alloc, words) {
+        Ok(wants) => match wants.folder {
+            Some(path) => {
+                let folder = Folder::new(alloc, system, path);
+                run_in_folder::<T, S, K, R>(alloc, folder, words, source, sink)
+            }
+            None => run_in_memory::<T, S, K>(alloc, words, source, sink),
+        },
+        Err(_) => 1,
     }
 }
 
 /// Runs the words of a call on what they want, and answers the code that the process is to end with: the status of `run`.
 ///
-/// Where memory ran out as the words were read, or as what they want was made, it is 1, and nothing is read or written. Words
-/// that were not read for another cause are no command.
+/// Where memory ran out as the words were read it is 1, and nothing is read or written. Words that were not read for another
+/// cause are no command.
 pub(crate) fn start<T: Tree, S: Source, K: Sink, R: Files<File = File> + Drop>(
     alloc: Global,
     system: R,
@@ -113,6 +105,16 @@ pub(crate) fn start<T: Tree, S: Source, K: Sink, R: Files<File = File> + Drop>(
     source: &mut S,
     sink: &mut K,
 ) -> ExitCode
+    ensures memory { IsOutOfMemory words → exit_status result ≡ 1 }
+    ensures unstarted { IsOutOfMemory words → (source.new ≡ source.old) × (sink.new ≡ sink.old) }
+    ensures answers { Answers (words_of words) (S.left source.old) (S.left source.new) (K.written sink.old)
+        (K.written sink.new) (S.faults source.old) (S.faults source.new) (K.faults sink.old) (K.faults sink.new) (exit_status result) }
+    ensures unread { (Reads (command_in (words_of words)) → ⊥) → source.new ≡ source.old }
+    ensures ends { (IsOutOfMemory words → ⊥) → folder_in (words_of words) ≡ None → EndsAs (command_in (words_of words)) New (Rose (S.faults source.old) (S.faults source.new))
+        (S.left source.old) (K.written sink.old) (K.written sink.new) (exit_status result) }
+    ensures complete { (IsOutOfMemory words → ⊥) → folder_in (words_of words) ≡ None → (Rose (S.faults source.old) (S.faults source.new) → ⊥)
+        → (Rose (K.faults sink.old) (K.faults sink.new) → ⊥)
+        → IsComplete (command_in (words_of words)) New (S.left source.old) (exit_status result) }
 {
     let words = match words {
         Ok(words) => words,
@@ -120,8 +122,5 @@ pub(crate) fn start<T: Tree, S: Source, K: Sink, R: Files<File = File> + Drop>(
         // as where they are not UTF-8
         Err(_) => Vec::new(alloc),
     };
-    match run_on::<T, S, K, R>(alloc, system, words.as_slice(), source, sink) {
-        Ok(status) => ExitCode::from(status),
-        Err(_) => ExitCode::from(1),
-    }
+    ExitCode::from(run_on::<T, S, K, R>(alloc, system, words.as_slice(), source, sink))
 }

@@ -1,4 +1,4 @@
-//! The program: reads a schedule from standard input, runs it, and writes the report to standard output.
+//! The program: does what the words behind its name say, on standard input and output and on the folder that they name.
 #![tactic(auto)]
 
 mod command;
@@ -23,5 +23,5 @@ fn words_of(rt: &HostRuntime) -> io::Result<Vec<String>> {
 fn main(rt: HostRuntime) -> ExitCode {
     let mut source = Reading::new(rt.reader());
     let mut sink = Writing::new(io::writer(&rt));
-    start::<PlainTree, _, _>(rt.alloc(), words_of(&rt), &mut source, &mut sink)
+    start::<PlainTree, _, _, _>(rt.alloc(), &rt, words_of(&rt), &mut source, &mut sink)
 }

@@ -21,7 +21,7 @@ fn ends_with_the_status(rt: HostRuntime) -> Result<(), Fail> {
     ] {
         let mut source = Reading::new(&b"show server\n"[..]);
         let mut sink = MemSink::new(rt.alloc(), Vec::new(rt.alloc()));
-        let code = start::<PlainTree, _, _>(rt.alloc(), words, &mut source, &mut sink);
+        let code = start::<PlainTree, _, _, _>(rt.alloc(), &rt, words, &mut source, &mut sink);
         assert_eq!(rt; code, ExitCode::from(status));
         assert_eq!(rt; sink.written().as_slice(), output.as_bytes());
     }
