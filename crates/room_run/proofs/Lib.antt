@@ -1,0 +1,6 @@
+mod Along
+mod Appending
+mod Halts
+mod Opening
+mod Played
+mod Schedules

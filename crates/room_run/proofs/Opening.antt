@@ -1,0 +1,33 @@
+-- A run from the opening on.
+use Rattle.std.proofs.Common.{◌≡◌, ◌⊎◌, inl, inr, ⊎_elim, ◌≤◌, ℕ, List, Option, Result, Ok, Err, refl, sym, subst, arith}
+use Rattle.std.proofs.Math.Nat.{le_trans}
+use Rattle.room_disk.specs.Model.{Reads, Images, Keeps, WholeBetween}
+use Rattle.room_log.specs.Log.{State}
+use Rattle.room_model.specs.Lines.{Line}
+use Rattle.room_model.specs.World.{World, opening}
+use Rattle.room_replay.specs.Files.{StandsFor}
+use Rattle.room_store.specs.Consistent.{BeforeOr}
+use Rattle.room_run.specs.Running.{InOpening, Runs, Replays}
+use Rattle.room_run.specs.declared.halt.Halt.{Halt}
+
+-- what was before is the images of the last disk at the first moment
+pub opens : (before : ℕ → List ℕ → Type 0) (s : State) (from mid : ℕ) (was so is : Images)
+    → ((f : ℕ) (c : List ℕ) → before f c → was from f c) → WholeBetween from mid was so (BeforeOr before (StandsFor 0 s))
+    → Keeps mid so is → InOpening is (is from) s from mid
+opens before s from mid was so is old run keeps = record {
+  later = run.later;
+  each = λ m image after till left. ⊎_elim
+      (λ (was_there : (f : ℕ) → before f (image f)).
+      inl (λ f. keeps.kept from f (image f) run.later
+      (run.keeps.kept from f (image f) (omega arith) (old f (image f) (was_there f)))))
+      (λ stands. inr stands)
+      (run.each m image after till (λ f. keeps.nothing_else m f (image f) till (left f)));
+}
+
+pub replays_on : {T : Type 0} (r : Result T Halt) (is : Images) (s : State) (ls : List (ℕ × Line))
+    (told now : Option (List ℕ)) (from mid till : ℕ) (v : World) → InOpening is (is from) s from mid
+    → Runs r is (opening s) ls told now mid till v → Replays r is s ls told now from till
+replays_on (Ok x) is s ls told now from mid till v opened ran =
+    record { opened = mid; opens = opened; world = v; ran = ran }
+replays_on (Err e) is s ls told now from mid till v opened halted =
+    inr (record { opened = mid; opens = opened; halted = halted })
