@@ -32,6 +32,9 @@ Once a t (u ∷ us) bs =
 
 -- a client that shows a tree: the tree after the first n updates, with its own operations beyond `told` on top
 pub record ShowsLog (s : State) (r : Run) (c : ℕ) (t : Nodes) : Type 0 where
+  -- n is the opening's number, or that of an update of the log
+  pub since : s.count ≤ (account r.world c).n
+  pub within : (account r.world c).n ≤ (state_in r.world.host).count
   pub tree : t ≡ tree_at s r.log (account r.world c).n
   pub told : (account r.world c).told ≡ last_at s r.log (account r.world c).n (actor (account r.world c))
   pub on_top : shown (account r.world c) ≡ Some
