@@ -11,7 +11,7 @@ use Rattle.room_model.specs.Account.{Account, Batch, all_bodies, bodies_in, is_s
 use Rattle.room_model.specs.Account.{unacknowledged}
 use Rattle.room_model.specs.Lines as lines
 use Rattle.room_model.specs.Lines.{Line}
-use Rattle.room_model.specs.World.{World, account, opening, state_in}
+use Rattle.room_model.specs.World.{World, account, opening, state_in, step}
 use Rattle.room_model.specs.Run.{Run, run, line, opened, IsUndisturbed}
 use Rattle.room_laws.specs.Always.{lines_of}
 use Rattle.room_laws.specs.Laws.{ShowsLog}
@@ -19,8 +19,10 @@ use Rattle.room_laws.specs.Undo.{Course, Goes, Lies, call_back, call_of, whole}
 use Rattle.room_laws.specs.Undoing.{TakesBack, bodies_after}
 use Rattle.room_laws.specs.Validity.{AreLines, AreSpelled}
 use Rattle.room_laws.proofs.EveryRun.{every_growth, every_log, every_once, every_shows, every_undo, every_undone}
+use Rattle.room_world.specs.Trying.{tries}
 use Rattle.room_run.specs.Running.{after_lines}
-use Rattle.room_headline.specs.Headline.{Headline, Holds, HoldsOf, Undoes}
+use Rattle.room_headline.specs.Headline.{Adds, Headline, Holds, HoldsOf, Undoes}
+use Rattle.room_headline.proofs.Adding.{line_ends}
 use Rattle.room_headline.proofs.Clocks.{run_on}
 
 -- lines before others
@@ -111,9 +113,22 @@ module _ (s : State) (done : List (ℕ × Line)) (valid : IsValidState s) (are :
     clients = client;
   }
 
+-- what the line behind these adds
+adds : (s : State) (done : List (ℕ × Line)) (l : ℕ × Line) → Adds s done l
+adds s done l =
+    let r = run (opened s) done in
+    let h = line_ends r.world l.0 l.1 in
+    record {
+      entries = (step r.world l.0 l.1).entries;
+      log = ap (λ (z : Run). z.log) (run_append done (l ∷ []) (opened s));
+      dropped = h.dropped;
+      tries = ap (λ (w : World). tries w l.0 l.1) (sym (world_is done (opened s))) ∙ h.is;
+    }
+
 pub everywhere : (s : State) (ls : List (ℕ × Line)) → IsValidState s → AreLines ls → Headline s ls
 everywhere s ls valid are = record {
   holds = λ done left is. holds s done valid (lines_front done left (subst AreLines (sym is) are));
+  adds = λ done left l is. adds s done l;
   grows = λ done left is.
       let g = every_growth s done left valid (subst AreLines (sym is) are) in
       (g.more, ap (λ ms. (run (opened s) ms).log) (sym is) ∙ g.log);

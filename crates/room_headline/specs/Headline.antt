@@ -1,18 +1,19 @@
 -- The headline: what holds of a run at each of its lines.
-use Rattle.std.specs.Prelude.{◌≡◌, ◌+◌, ◌⊎◌, ℕ, List, [], ◌∷◌, ◌++◌, length, Some, ⊤}
+use Rattle.std.specs.Prelude.{◌≡◌, ◌+◌, ◌⊎◌, ℕ, List, [], ◌∷◌, ◌++◌, length, Option, Some, ⊤}
 use Rattle.room_nodes.specs.Shape.{Nodes}
 use Rattle.room_nodes.specs.Steps.{fold}
 use Rattle.room_log.specs.Log.{State, Entry, Update, last_of, tree_after, tree_at, state_after, updates_of}
 use Rattle.room_log.specs.Follows.{IsValidLog, IsValidState}
 use Rattle.room_model.specs.Account.{Batch, shown, unacknowledged}
 use Rattle.room_model.specs.Lines.{Line}
-use Rattle.room_model.specs.World.{account, opening, state_in}
+use Rattle.room_model.specs.World.{account, entries_in, opening, state_in}
 use Rattle.room_model.specs.Run.{run, opened, IsUndisturbed}
 use Rattle.room_laws.specs.Always.{lines_of}
 use Rattle.room_laws.specs.Laws.{ShowsLog, Kept}
 use Rattle.room_laws.specs.Undo.{Course, Goes, Lies}
 use Rattle.room_laws.specs.Undoing.{TakesBack, bodies_after}
 use Rattle.room_laws.specs.Validity.{AreLines}
+use Rattle.room_world.specs.Trying.{tries}
 use Rattle.room_run.specs.Running.{after_lines}
 
 -- the clocks of an actor's operations run on by ones from the clock c
@@ -60,9 +61,19 @@ pub record Holds (s : State) (done : List (ℕ × Line)) : Type 0 where
   pub state : state_in (after_lines (opening s) done).host ≡ state_after s (run (opened s) done).log
   pub clients : (c : ℕ) → IsUndisturbed (run (opened s) done) c → HoldsOf s done c
 
--- at every line: what was there before a line stays, with what it adds behind it
+-- What the line behind these does to the log: its entries come behind what was there. It tries to add these, and after
+-- them at most the one whose commit the disk stopped in. So where an image stands for the state before the line with a
+-- first part of what it tries, it stands for the state of a first part of the log, or of that with the one under way.
+pub record Adds (s : State) (done : List (ℕ × Line)) (l : ℕ × Line) : Type 0 where
+  pub entries : List Entry
+  pub log : (run (opened s) (done ++ l ∷ [])).log ≡ (run (opened s) done).log ++ entries
+  pub dropped : Option Entry
+  pub tries : tries (after_lines (opening s) done) l.0 l.1 ≡ entries ++ entries_in dropped
+
+-- at every line, and what was there before it stays in the log
 pub record Headline (s : State) (ls : List (ℕ × Line)) : Type 0 where
   pub holds : (done left : List (ℕ × Line)) → done ++ left ≡ ls → Holds s done
+  pub adds : (done left : List (ℕ × Line)) (l : ℕ × Line) → done ++ l ∷ left ≡ ls → Adds s done l
   pub grows : (done left : List (ℕ × Line)) → done ++ left ≡ ls
       → (more : List Entry) × ((run (opened s) ls).log ≡ (run (opened s) done).log ++ more)
 
