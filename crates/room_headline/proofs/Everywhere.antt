@@ -5,9 +5,9 @@ use Rattle.std.specs.Prelude.{if◌then◌else◌}
 use Rattle.room_nodes.specs.declared.nodes.Body.{Body}
 use Rattle.room_nodes.specs.Shape.{Nodes}
 use Rattle.room_nodes.specs.Steps.{fold}
-use Rattle.room_log.specs.Log.{State, Entry, Update, tree_after, tree_at, state_after}
+use Rattle.room_log.specs.Log.{State, tree_at, state_after}
 use Rattle.room_log.specs.Follows.{IsValidState}
-use Rattle.room_model.specs.Account.{Account, Batch, all_bodies, bodies_in, is_some_list, issued, pending_bodies, shown}
+use Rattle.room_model.specs.Account.{Batch, all_bodies, bodies_in, is_some_list, issued, pending_bodies, shown}
 use Rattle.room_model.specs.Account.{unacknowledged}
 use Rattle.room_model.specs.Lines as lines
 use Rattle.room_model.specs.Lines.{Line}
@@ -15,8 +15,8 @@ use Rattle.room_model.specs.World.{World, account, opening, state_in, step}
 use Rattle.room_model.specs.Run.{Run, run, line, opened, IsUndisturbed}
 use Rattle.room_laws.specs.Always.{lines_of}
 use Rattle.room_laws.specs.Laws.{ShowsLog}
-use Rattle.room_laws.specs.Undo.{Course, Goes, Lies, call_back, call_of, whole}
-use Rattle.room_laws.specs.Undoing.{TakesBack, bodies_after}
+use Rattle.room_laws.specs.Undo.{Course, Lies, call_back, call_of, whole}
+use Rattle.room_laws.specs.Undoing.{TakesBack}
 use Rattle.room_laws.specs.Validity.{AreLines, AreSpelled}
 use Rattle.room_laws.proofs.EveryRun.{every_growth, every_log, every_once, every_shows, every_undo, every_undone}
 use Rattle.room_world.specs.Trying.{tries}

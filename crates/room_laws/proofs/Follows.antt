@@ -13,7 +13,7 @@ use Rattle.room_laws.specs.Ledger.{Matches}
 use Rattle.room_laws.specs.Core.{Core, issued, actor}
 use Rattle.room_laws.specs.Invariant
 use Rattle.room_laws.specs.Laws.{Once, ShowsLog, Kept}
-use Rattle.room_laws.proofs.Matches.{Matches-append, last_after_is}
+use Rattle.room_laws.proofs.Matches.{Matches-append, last_after_is, left}
 use Rattle.room_laws.proofs.Owns.{rest_is}
 
 take_at : {A : Type 0} (xs ys : List A) (n : ℕ) → n ≡ length xs → take n (xs ++ ys) ≡ xs
@@ -53,6 +53,7 @@ module _ (s : State) (r : Run) (c : ℕ) (st : Invariant.Inv s r) (u : IsUndistu
         runs = l.chain;
         once = once (actor x) s.tree 0 (updates_of r.log) (Invariant.issued_by r c) l.rest (last_of (Invariant.sessions r) (actor x))
             (rw h.own.whole (Matches-append (actor x) s.tree 0 h.done h.coming (Invariant.issued_by r c) (issued x) l.rest x.told (last_of (Invariant.sessions r) (actor x)) l.received l.takes));
+        pending = sym (left (actor x) s.tree 0 h.done (Invariant.issued_by r c) (issued x) x.told l.chain l.received).is;
         acknowledged = (rest_is s (updates_of r.log) (last_of (Invariant.sessions r) (actor x)) x (Invariant.issued_by r c) h.done h.coming h.own).above;
       }
 
