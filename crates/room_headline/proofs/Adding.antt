@@ -6,8 +6,8 @@ use Rattle.std.specs.FinMap.{get, entries}
 use Rattle.room_log.specs.Log.{State, Entry}
 use Rattle.room_msg.specs.declared.messages.ServerFrame.TheVariants.{Pong as PongOf, Msgs as ServerMsgsOf}
 use Rattle.room_model.specs.Account.{Account}
-use Rattle.room_model.specs.Calls.{Undo as Back, Redo as Forth, Done, BatchFault, UndoFault, SayFault, edit, batch_begin}
-use Rattle.room_model.specs.Calls.{batch_end, go_back, presence, event}
+use Rattle.room_model.specs.Calls.{Undo as Back, Redo as Forth, Done, BatchFault, UndoFault, SayFault, edit}
+use Rattle.room_model.specs.Calls.{batch_begin, batch_end, go_back, presence, event}
 use Rattle.room_model.specs.Edits.{EditFault}
 use Rattle.room_model.specs.Lines as lines
 use Rattle.room_model.specs.Lines.{Line}
@@ -206,8 +206,8 @@ unfolding World.drain
 drains zero w number = record { dropped = None; is = refl }
 drains (suc n) w number =
     let v = (drain_once w number).world in
-    then_tried (drain_once w number) (move_tries w (next_in w)) (World.drain v number n).entries (drain_tries v number n)
-    (move_tried w number (next_in w) (next_out w)) (drains n v number)
+    then_tried (drain_once w number) (move_tries w (next_in w)) (World.drain v number n).entries
+    (drain_tries v number n) (move_tried w number (next_in w) (next_out w)) (drains n v number)
     (λ s e. let r = rests n v number s e in (r.tried, r.none))
 
 -- a call of a client

@@ -71,11 +71,15 @@ updated_on s u us a true e h more =
     let known : session_of s.sessions a ≡ Some h.session = ap (session_of s.sessions) (sym own) ∙ h.known in
     let stood : last_of s.sessions a ≡ (h.session).last = ap last_in known in
     let now : last_of (with_last s.sessions u.actor (last_from u.first u.bodies)) a ≡ last_from u.first u.bodies
-        = ap (λ (i : ℕ). last_of (with_last s.sessions i (last_from u.first u.bodies)) a) own
-        ∙ last_own s.sessions a (last_from u.first u.bodies) h.session known in
+    = ap (λ (i : ℕ). last_of (with_last s.sessions i (last_from u.first u.bodies)) a) own
+    ∙ last_own s.sessions a (last_from u.first u.bodies) h.session known in
     let next : last_of (with_last s.sessions u.actor (last_from u.first u.bodies)) a
-        ≡ last_of s.sessions a + length u.bodies = omega (arith, now, stood, h.first, h.some) in
-    inl (record { own = own; first = h.first ∙ ap (λ (n : ℕ). n + 1) (sym stood); more = subst (λ n. RunOn a n us) next more })
+    ≡ last_of s.sessions a + length u.bodies = omega (arith, now, stood, h.first, h.some) in
+    inl (record {
+      own = own;
+      first = h.first ∙ ap (λ (n : ℕ). n + 1) (sym stood);
+      more = subst (λ n. RunOn a n us) next more;
+    })
 updated_on s u us a false e h more =
     let other : u.actor ≡ a → ⊥ = eqb-false u.actor a e in
     let same = last_other s.sessions u.actor a (last_from u.first u.bodies) (λ d. other (sym d)) in

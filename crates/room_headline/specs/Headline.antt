@@ -38,7 +38,7 @@ pub record Undoes (s : State) (done : List (ℕ × Line)) (c : ℕ) : Type 0 whe
 
 -- of a client that alone was ever given its actor
 pub record HoldsOf (s : State) (done : List (ℕ × Line)) (c : ℕ) : Type 0 where
-  -- each batch once, and those that were acknowledged
+  -- each batch once, those that were acknowledged too; all others it holds
   pub once : Kept s (run (opened s) done) c
   -- what it shows
   pub shows : (t : Nodes) → (account (run (opened s) done).world c).confirmed ≡ Some t
