@@ -1,5 +1,5 @@
 -- What the invariant gives.
-use Rattle.std.proofs.Common.{◌≡◌, ℕ, zero, suc, ◌+◌, ◌-◌, ◌<◌, ◌≤◌, inl, inr, true, false, List, [], ◌∷◌, ◌++◌, length, take, refl, sym, ap, ◌∙◌, subst, arith}
+use Rattle.std.proofs.Common.{◌≡◌, ℕ, zero, suc, ◌+◌, ◌-◌, ◌<◌, ◌≤◌, inl, inr, true, false, List, [], ◌∷◌, ◌++◌, length, length-append, take, refl, sym, ap, ◌∙◌, subst, arith}
 use Rattle.std.specs.Prelude.{Option, Some, None, is_some, slice_get}
 use Rattle.std.proofs.lemmas.Option.{slice_get_within}
 use Rattle.room_nodes.specs.Shape.{Nodes}
@@ -13,7 +13,7 @@ use Rattle.room_laws.specs.Ledger.{Matches}
 use Rattle.room_laws.specs.Core.{Core, issued, actor}
 use Rattle.room_laws.specs.Invariant
 use Rattle.room_laws.specs.Laws.{Once, ShowsLog, Kept}
-use Rattle.room_laws.proofs.Matches.{Matches-append, last_after_is}
+use Rattle.room_laws.proofs.Matches.{Matches-append, last_after_is, left}
 use Rattle.room_laws.proofs.Owns.{rest_is}
 
 take_at : {A : Type 0} (xs ys : List A) (n : ℕ) → n ≡ length xs → take n (xs ++ ys) ≡ xs
@@ -53,6 +53,7 @@ module _ (s : State) (r : Run) (c : ℕ) (st : Invariant.Inv s r) (u : IsUndistu
         runs = l.chain;
         once = once (actor x) s.tree 0 (updates_of r.log) (Invariant.issued_by r c) l.rest (last_of (Invariant.sessions r) (actor x))
             (rw h.own.whole (Matches-append (actor x) s.tree 0 h.done h.coming (Invariant.issued_by r c) (issued x) l.rest x.told (last_of (Invariant.sessions r) (actor x)) l.received l.takes));
+        pending = sym (left (actor x) s.tree 0 h.done (Invariant.issued_by r c) (issued x) x.told l.chain l.received).is;
         acknowledged = (rest_is s (updates_of r.log) (last_of (Invariant.sessions r) (actor x)) x (Invariant.issued_by r c) h.done h.coming h.own).above;
       }
 
@@ -72,7 +73,10 @@ module _ (s : State) (r : Run) (c : ℕ) (st : Invariant.Inv s r) (u : IsUndistu
       let front : take (x.n - s.count) (updates_of r.log) ≡ h.done = ap (λ us. take (x.n - s.count) us) h.own.whole ∙ take_at h.done h.coming (x.n - s.count) number in
       let tree : t ≡ tree_at s r.log x.n = shown.tree ∙ ap (tree_after s.tree) (sym front) in
       let zero_is : last_of s.sessions (actor x) ≡ 0 = since x.session shown.known h.stands in
+      let count = st.logged.count in
       record {
+        since = omega (arith, shown.number);
+        within = omega (arith, shown.number, count, ap length h.own.whole, length-append h.done h.coming);
         tree = tree;
         told = sym (ap (λ us. last_after (actor x) (last_of s.sessions (actor x)) us) front ∙ ap (λ i. last_after (actor x) i h.done) zero_is
             ∙ last_after_is (actor x) s.tree 0 h.done (Invariant.issued_by r c) (issued x) x.told l.chain l.received);

@@ -4,7 +4,7 @@ use Rattle.room_nodes.specs.Shape.{Nodes}
 use Rattle.room_nodes.specs.Steps.{fold, settle_all}
 use Rattle.room_items.specs.Items.{tree_in, items_of}
 use Rattle.room_log.specs.Log.{State, Update, tree_after, tree_at, last_at, last_of, updates_of}
-use Rattle.room_model.specs.Account.{Batch, actor, pending_bodies, shown}
+use Rattle.room_model.specs.Account.{Batch, actor, beyond, issued, pending_bodies, shown}
 use Rattle.room_model.specs.Lines.{Line}
 use Rattle.room_msg.specs.declared.messages.ServerMsg.{ServerMsg}
 use Rattle.room_msg.specs.declared.messages.ServerFrame.TheVariants.{Msgs}
@@ -32,15 +32,19 @@ Once a t (u ∷ us) bs =
 
 -- a client that shows a tree: the tree after the first n updates, with its own operations beyond `told` on top
 pub record ShowsLog (s : State) (r : Run) (c : ℕ) (t : Nodes) : Type 0 where
+  -- n is the opening's number, or that of an update of the log
+  pub since : s.count ≤ (account r.world c).n
+  pub within : (account r.world c).n ≤ (state_in r.world.host).count
   pub tree : t ≡ tree_at s r.log (account r.world c).n
   pub told : (account r.world c).told ≡ last_at s r.log (account r.world c).n (actor (account r.world c))
   pub on_top : shown (account r.world c) ≡ Some
       (fold (tree_at s r.log (account r.world c).n) (pending_bodies (account r.world c)))
 
--- its batches in the log, each once, and what it was told of them
+-- its batches in the log, each once, and what it was told of them; it holds all that are beyond that
 pub record Kept (s : State) (r : Run) (c : ℕ) : Type 0 where
   pub runs : RunsOn 0 (issued_of c r.issued)
   pub once : Once (actor (account r.world c)) s.tree (updates_of r.log) (issued_of c r.issued)
+  pub pending : issued (account r.world c) ≡ beyond (account r.world c).told (issued_of c r.issued)
   pub acknowledged : (account r.world c).told ≤ last_of (state_in r.world.host).sessions (actor (account r.world c))
 
 -- each tree that these updates lead to is read again, from its items, as itself
