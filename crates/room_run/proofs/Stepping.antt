@@ -1,10 +1,10 @@
 -- The next line of those that are left.
-use Rattle.std.proofs.Common.{◌≡◌, ◌<◌, ◌+◌, ◌≤◌, ℕ, List, [], ◌∷◌, length, get_or, drop, Option, Some, Result, Ok, Err}
-use Rattle.std.proofs.Common.{refl, sym, ap, ◌∙◌, subst, arith}
+use Rattle.std.proofs.Common.{◌≡◌, ◌<◌, ◌+◌, ◌≤◌, ℕ, List, [], ◌∷◌, length, get_or, drop, Option, Some, Ok, Err}
+use Rattle.std.proofs.Common.{sym, ap, ◌∙◌, subst}
 use Rattle.std.proofs.lemmas.List.{drop_all, drop_more}
 use Rattle.room_disk.specs.Model.{Images}
 use Rattle.room_model.specs.Lines as model
-use Rattle.room_model.specs.World.{World, step}
+use Rattle.room_model.specs.World.{World}
 use Rattle.room_moves.specs.Reading.{Reads, AllRead}
 use Rattle.room_script.specs.Forms.{AreScheduled, lines_of}
 use Rattle.room_script.specs.Told.{line_of}

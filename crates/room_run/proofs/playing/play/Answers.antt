@@ -1,4 +1,4 @@
-use Rattle.std.proofs.Common.{◌≡◌, subst, Err}
+use Rattle.std.proofs.Common.{subst, Err}
 use Rattle.room_moves.proofs.Moments.{holds_within}
 use Rattle.room_world.specs.Seen.{world_on}
 use Rattle.room_run.specs.Halting.{IsDone}

@@ -1,12 +1,11 @@
-use Rattle.std.proofs.Common.{◌≡◌, ◌≤◌, ◌+◌, ℕ, true, List, [], drop, length, Err, ◌∙◌, sym, ap, subst, arith, rules}
+use Rattle.std.proofs.Common.{◌+◌, drop, length, ap, subst, arith, rules}
 use Rattle.std.proofs.Math.Nat.{le_trans}
 use Rattle.room_script.specs.Forms.{AreScheduled, lines_of}
-use Rattle.room_script.specs.declared.lines.Line.{Line}
 use Rattle.room_world.specs.Lines.{AreRunnable}
 use Rattle.room_world.specs.Seen.{world_on}
-use Rattle.room_run.specs.Running.{Runs, Halted}
+use Rattle.room_run.specs.Running.{Halted}
 use Rattle.room_run.proofs.Played.{begins, stands_at}
-use Rattle.room_run.proofs.Stepping.{left_at, ran_next, halts_next, reads_first, reads_next, none_left}
+use Rattle.room_run.proofs.Stepping.{left_at, ran_next, halts_next, reads_next, none_left}
 use Rattle.room_run.proofs.playing.play_all.Goals as goal
 
 pub loop-number-init : goal.loop-number-init
@@ -85,8 +84,8 @@ returns-in_err-play-clause-runs g c told can =
     let v = world_on d.seen s.armed s.way l.world l.disk in
     let u = world_on d.seen s.armed s.way c.play.new.world c.play.new.disk in
     let halted : Halted c.in_err-play.field-0.0 (s.inner_images c.play.new.disk) w (lines_of lines)
-        (k.written c.args.sink.now) (k.written c.play.new.sink) (s.inner_moment c.args.disk.now)
-        (s.inner_moment c.play.new.disk) =
+    (k.written c.args.sink.now) (k.written c.play.new.sink) (s.inner_moment c.args.disk.now)
+    (s.inner_moment c.play.new.disk) =
     halts_next e left rest split i.scheduled (Unit {0}) (s.inner_images l.disk) (s.inner_images c.play.new.disk) w
     (lines_of lines) (k.written c.args.sink.now) (k.written l.sink) (k.written c.play.new.sink)
     (s.inner_moment c.args.disk.now) (s.inner_moment l.disk) (s.inner_moment c.play.new.disk) v u _ (i.ran told can)
@@ -95,5 +94,11 @@ returns-in_err-play-clause-runs g c told can =
 
 pub returns-clause-runs : goal.returns-clause-runs
 returns-clause-runs g c told can =
+    let d = g.D.Disk in
+    let s = g.D.Stopping in
+    let k = g.K.Sink in
     let l = c.loop-number in
-    none_left _ _ _ _ _ _ _ _ c.args.lines.now l.number-index c.loop-number-test.false (l.invariant.ran told can)
+    none_left (s.inner_images l.disk) (world_on d.seen s.armed s.way c.args.world.now c.args.disk.now)
+    (lines_of c.args.lines.now) (k.written c.args.sink.now) (k.written l.sink) (s.inner_moment c.args.disk.now)
+    (s.inner_moment l.disk) (world_on d.seen s.armed s.way l.world l.disk) c.args.lines.now l.number-index
+    c.loop-number-test.false (l.invariant.ran told can)

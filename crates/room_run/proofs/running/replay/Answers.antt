@@ -6,7 +6,7 @@ use Rattle.room_host.specs.Faults.{IsFault}
 use Rattle.room_host.specs.Seen.{room_files}
 use Rattle.room_host.specs.declared.fault.HostFault.TheVariants as host
 use Rattle.room_log.specs.Log.{State}
-use Rattle.room_model.specs.World.{World, opening}
+use Rattle.room_model.specs.World.{World}
 use Rattle.room_moves.specs.Reading.{AllRead}
 use Rattle.room_replay.specs.Files.{Files, Stands}
 use Rattle.room_reread.proofs.Everywhere.{reads_everywhere}
@@ -29,13 +29,16 @@ returns-in-Err-clause-replays g c told can state stands =
     let mid = c.new.new.disk in
     let bare = g.met.D.Stopping.plain_is_bare old c.requires.plain in
     let seen = stands_seen state (d.seen old) (s.inner_seen old) bare.reads stands in
-    inl (record {
-      opens = opens_inner (d.moment old) (d.moment mid) (d.images old) (d.images mid) state (s.inner_moment old)
-          (s.inner_moment mid) (s.inner_images old) (s.inner_images mid) (s.inner_images mid)
-          (g.met.D.Stopping.mirrors old mid told c.new.ensures.went) bare.images_left
-          (c.new.ensures.images told state seen) (keeps_same (s.inner_moment mid) (s.inner_images mid));
-      told = appends_none (g.K.Sink.written c.args.sink.now);
-    }, subst IsOfOpening (sym c.halt_of.ensures) (of_opening c.in-Err.fault))
+    inl (
+      record {
+        opens = opens_inner (d.moment old) (d.moment mid) (d.images old) (d.images mid) state (s.inner_moment old)
+            (s.inner_moment mid) (s.inner_images old) (s.inner_images mid) (s.inner_images mid)
+            (g.met.D.Stopping.mirrors old mid told c.new.ensures.went) bare.images_left
+            (c.new.ensures.images told state seen) (keeps_same (s.inner_moment mid) (s.inner_images mid));
+        told = appends_none (g.K.Sink.written c.args.sink.now);
+      },
+      subst IsOfOpening (sym c.halt_of.ensures) (of_opening c.in-Err.fault),
+    )
 
 pub returns-in-Err-clause-files : goal.returns-in-Err-clause-files
 returns-in-Err-clause-files g c told =
@@ -46,8 +49,10 @@ returns-in-Err-clause-files g c told =
     let f = c.in-Err.fault in
     let fault : (f ≡ host.Disk) ⊎ IsFault (room_files inner) f =
     subst (λ (fs : Files). (f ≡ host.Disk) ⊎ IsFault fs f) (same_files seen inner bare.reads) (c.in-Err.ensures.fault told) in
-    inr (subst (IsOfFiles (room_files inner)) (sym c.halt_of.ensures) (of_files (room_files inner) f fault),
-    appends_none (g.K.Sink.written c.args.sink.now))
+    inr (
+      subst (IsOfFiles (room_files inner)) (sym c.halt_of.ensures) (of_files (room_files inner) f fault),
+      appends_none (g.K.Sink.written c.args.sink.now),
+    )
 
 pub returns-in-Err-clause-whole : goal.returns-in-Err-clause-whole
 returns-in-Err-clause-whole g c told state stands =
