@@ -27,9 +27,11 @@ pub along_kept : (was is : Images) (w : World) (ls : List (ℕ × Line)) (from t
     → Along was w ls from till → Along is w ls from till
 along_kept was is w [] from till keeps a = a
 along_kept was is w (l ∷ ls) from till keeps a =
-    let next = (step w l.0 l.1).world in
-    (a.0, line_kept was is w l from a.0 till (along_later was next ls a.0 till a.2) keeps a.1,
-    along_kept was is next ls a.0 till keeps a.2)
+    let next = (step w l.0 l.1).world in (
+      a.0,
+      line_kept was is w l from a.0 till (along_later was next ls a.0 till a.2) keeps a.1,
+      along_kept was is next ls a.0 till keeps a.2,
+    )
 
 -- one line more
 

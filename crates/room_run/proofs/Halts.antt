@@ -1,5 +1,5 @@
 -- Why a run ended.
-use Rattle.std.proofs.Common.{◌≡◌, ◌≤◌, ◌⊎◌, inl, inr, ⊎_elim, ℕ, Result, Ok, Err, refl, sym, ◌∙◌, subst, arith}
+use Rattle.std.proofs.Common.{◌≡◌, ◌≤◌, ◌⊎◌, ⊎_elim, ℕ, Err, refl, sym, ◌∙◌, arith}
 use Rattle.room_edge.specs.Causes.{Rose}
 use Rattle.room_host.specs.Faults.{IsFault, IsWhole as IsWholeHost}
 use Rattle.room_host.specs.declared.fault.HostFault.{HostFault}
@@ -7,7 +7,7 @@ use Rattle.room_host.specs.declared.fault.HostFault.TheVariants as host
 use Rattle.room_log.specs.Log.{State, empty_state}
 use Rattle.room_replay.specs.Files.{Files, Room, Stands}
 use Rattle.room_replay.specs.Files.{New as NewFiles, Damaged as DamagedFiles}
-use Rattle.room_run.specs.Halting.{halt_of, IsDone, IsOfDisk, IsOfOpening, IsOfFiles, IsWhole}
+use Rattle.room_run.specs.Halting.{halt_of, IsDone, IsOfOpening, IsOfFiles, IsWhole}
 use Rattle.room_run.specs.declared.halt.Halt.{Halt}
 use Rattle.room_run.specs.declared.halt.Halt.TheVariants.{Memory, Sink, Disk, Damaged}
 
@@ -59,6 +59,7 @@ not_damaged s fs f at stands is = ⊎_elim
   where
     not_room : (s : State) (f at : ℕ) → Room s ≡ DamagedFiles f at → ⊥
     not_room s f at is = cc
+
     not_new : (f at : ℕ) → NewFiles ≡ DamagedFiles f at → ⊥
     not_new f at is = cc
 

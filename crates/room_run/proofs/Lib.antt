@@ -4,3 +4,4 @@ mod Halts
 mod Opening
 mod Played
 mod Schedules
+mod Stepping

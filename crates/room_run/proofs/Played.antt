@@ -1,10 +1,9 @@
 -- One line, done and told.
-use Rattle.std.proofs.Common.{◌≡◌, ◌≤◌, ℕ, true, List, [], ◌∷◌, ◌++◌, length, take, Option, Some, Result, Ok, Err}
-use Rattle.std.proofs.Common.{refl, sym, ap, ◌∙◌, subst, arith, append_assoc}
+use Rattle.std.proofs.Common.{◌≡◌, ℕ, List, [], ◌∷◌, ◌++◌, length, take, Option, Result, Ok, Err}
+use Rattle.std.proofs.Common.{refl, sym, ◌∙◌, subst, append_assoc}
 use Rattle.std.specs.Prelude.{OnOk, OnErr, IfErr}
 use Rattle.std.specs.Io.KnownBytes.{Appends}
-use Rattle.room_disk.specs.Model.{Reads, Images, Keeps, WholeBetween}
-use Rattle.room_fuse.specs.Mirrors.{MirrorsBetween}
+use Rattle.room_disk.specs.Model.{Reads, Images, WholeBetween}
 use Rattle.room_host.specs.Rests.{IsKept}
 use Rattle.room_host.specs.Seen.{host_in, room_files}
 use Rattle.room_host.proofs.Keeping.{kept_holds}
@@ -12,13 +11,12 @@ use Rattle.room_model.specs.Lines.{Line}
 use Rattle.room_model.specs.Run.{report_from, text_of_lines}
 use Rattle.room_model.specs.World.{World, state_in, step}
 use Rattle.room_moves.specs.Moments.{OfFirst}
-use Rattle.room_moves.proofs.Moments.{holds_within}
 use Rattle.room_replay.specs.Files.{StandsFor}
 use Rattle.room_server.specs.Hosted.{Hosted}
 use Rattle.room_world.specs.Did.{Did}
 use Rattle.room_world.specs.Trying.{tries}
 use Rattle.room_run.specs.Halting.{IsDone, IsOfDisk}
-use Rattle.room_run.specs.Running.{Along, At, InLine, Plays, Ran, Halted, Runs, after_lines, text_behind}
+use Rattle.room_run.specs.Running.{Along, At, InLine, Plays, Ran, Halted, after_lines, text_behind}
 use Rattle.room_run.specs.declared.halt.Halt.{Halt}
 use Rattle.room_run.proofs.Along.{along_kept, along_more, after_more, report_more}
 use Rattle.room_run.proofs.Appending.{appends_all, appends_more, appends_none}

@@ -1,7 +1,7 @@
 -- The lines of a schedule, as they are run.
-use Rattle.std.proofs.Common.{◌≡◌, ◌<◌, ◌+◌, ℕ, List, [], ◌∷◌, length, get_or, drop, Option, Some, None, refl, sym, ap, ◌∙◌}
-use Rattle.std.proofs.Common.{subst, arith}
-use Rattle.std.specs.Prelude.{⊤, IsSome, IfSome}
+use Rattle.std.proofs.Common.{◌≡◌, ◌+◌, ℕ, List, [], ◌∷◌, length, Option, Some, None, refl}
+use Rattle.std.proofs.Common.{arith}
+use Rattle.std.specs.Prelude.{IsSome, IfSome}
 use Rattle.room_model.specs.Lines as model
 use Rattle.room_model.specs.Sound.{IsLine}
 use Rattle.room_laws.specs.Validity.{AreSpelled}

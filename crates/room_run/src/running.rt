@@ -1,5 +1,5 @@
 //! The lines of a schedule, one after the other.
-ghost use Rattle.std.specs.Prelude.{◌≡◌, ◌≤◌, ◌+◌, ◌<◌, ◌^◌, ◌×◌, ◌⊎◌, true, length, IfErr, OnOk};
+ghost use Rattle.std.specs.Prelude.{◌≡◌, ◌≤◌, ◌+◌, ◌<◌, ◌^◌, ◌⊎◌, true, [], length, IfErr, OnOk};
 ghost use Rattle.std.specs.Io.KnownBytes.{Appends};
 ghost use Rattle.room_host.specs.Rests.{IsKept, Rests};
 ghost use Rattle.room_host.specs.Seen.{room_files};
@@ -14,7 +14,7 @@ ghost use Rattle.room_run.specs.Halting.{HasCauses, IsOfFiles, IsWhole};
 ghost use Rattle.room_run.specs.Running.{Replays, Runs};
 
 use crate::halt::{Halt, halt_of};
-use crate::playing::play;
+use crate::playing::play_all;
 use room_edge::Sink;
 use room_fuse::Stopping;
 use room_script::Line;
@@ -51,12 +51,7 @@ pub fn run<T: Tree, D: Stopping, K: Sink>(
     ensures causes { HasCauses D.faults D.inner_faults K.faults disk.old disk.new sink.old sink.new result }
     ensures whole { D.tells ≡ true → IfErr result IsWhole }
 {
-    let mut left = lines;
-    while let [(number, line), behind @ ..] = left {
-        play(alloc, world, disk, sink, *number, line)?;
-        left = behind;
-    }
-    Ok(())
+    play_all(alloc, world, disk, sink, lines)
 }
 
 /// A run in the room of the disk's first two files: its server recovers them, and then the lines are done. The disk holds
@@ -87,5 +82,5 @@ pub fn replay<T: Tree, D: Stopping, K: Sink>(
         Ok(world) => world,
         Err(fault) => return Err(halt_of(fault)),
     };
-    run(alloc, &mut world, disk, sink, lines)
+    play_all(alloc, &mut world, disk, sink, lines)
 }
