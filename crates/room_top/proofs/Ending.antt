@@ -9,11 +9,12 @@ use Rattle.room_model.specs.Lines.{Line}
 use Rattle.room_model.specs.Run.{report, report_from}
 use Rattle.room_model.specs.World.{opening, step}
 use Rattle.room_replay.specs.Files.{Files, New, Room, Damaged, Stands}
-use Rattle.room_run.specs.Halting.{IsOfDisk, IsOfFiles}
+use Rattle.room_run.specs.Halting.{IsOfDisk, IsOfFiles, IsWhole}
 use Rattle.room_run.specs.Running.{Halted, Replayed, Unopened, Broken, Replays, after_lines, text_behind}
 use Rattle.room_run.specs.declared.halt.Halt.{Halt}
+use Rattle.room_run.specs.declared.halt.Halt.TheVariants as halt
 use Rattle.room_top.specs.Commands.{Task, Runs}
-use Rattle.room_top.specs.Outcome.{Outcome, opened, outcome_of, disk_fault, damaged_line}
+use Rattle.room_top.specs.Outcome.{Outcome, opened, outcome_of, disk_fault, damaged_line, room_line}
 use Rattle.room_top.specs.Ending.{Ends, IsOwn, IsText, TellsStop, report_over}
 use Rattle.room_top.proofs.Fronts.{whole_is, front, front_of_two, report_split}
 
@@ -178,3 +179,73 @@ ends_stop fs ls o rose old mid now status f which all part =
         subst (Appends old now) t.1 (Appends-trans old mid now p (take part.0 disk_fault) f.told part.1),
       );
     }
+
+-- a run to its end
+pub ends_played : (fs : Files) (images : Images) (s : State) (ls : List (ℕ × Line)) (old now : Option (List ℕ))
+    (from till : ℕ) → Stands s fs → Replayed images s ls old now from till
+    → Ends fs (Runs ls) (outcome_of fs (Runs ls)) ⊥ old now 0
+ends_played fs images s ls old now from till stands r =
+    let o = outcome_of fs (Runs ls) in
+    ends_done fs (Runs ls) o ⊥ old now 0 (sym (ap (λ x. x.status) (opened_is s fs (λ t. report t ls) stands)))
+    (λ e. omega (arith, e), λ e. omega (arith, e), λ e. omega (arith, e), λ e. omega (arith, e))
+    (subst (Appends old now)
+    (ap (report s) (sym (append-nil r.ran.done) ∙ r.ran.lines_are) ∙ sym (text_is s fs ls stands)) r.ran.told)
+
+-- files that are damaged
+pub ends_damaged : (fs : Files) (ls : List (ℕ × Line)) (tell : State → List ℕ) (f at : ℕ) (old mid now : Option (List ℕ))
+    (status : ℕ) → fs ≡ Damaged f at → Appends old mid [] → (status ≡ 7) ⊎ (status ≡ 1) ⊎ (status ≡ 4)
+    → (status ≡ 7 → Appends mid now (damaged_line f at)) → (n : ℕ) × Appends mid now (take n (damaged_line f at))
+    → Ends fs (Runs ls) (opened fs tell) ⊥ old now status
+ends_damaged fs ls tell f at old mid now status is untold which all part =
+    let o = opened fs tell in
+    let says : o ≡ record { status = 7; text = damaged_line f at } = ap (λ x. opened x tell) is in
+    let text : damaged_line f at ≡ o.text = sym (ap (λ x. x.text) says) in
+    ends_by fs (Runs ls) o ⊥ old now 7 status (sym (ap (λ x. x.status) says))
+    (λ e. omega (arith, e), λ e. omega (arith, e), λ e. omega (arith, e), λ e. omega (arith, e)) which
+    (λ a b. subst (Appends old now) text
+    (Appends-trans old mid now [] (damaged_line f at) untold (all (seven which a b))))
+    (part.0, subst (λ t. Appends old now (take part.0 t)) text
+    (Appends-trans old mid now [] (take part.0 (damaged_line f at)) untold part.1))
+  where
+    seven : (status ≡ 7) ⊎ (status ≡ 1) ⊎ (status ≡ 4) → (status ≡ 1 → ⊥) → (status ≡ 4 → ⊥) → status ≡ 7
+    seven (inl e) a b = e
+    seven (inr (inl e)) a b = absurd (a e)
+    seven (inr (inr e)) a b = absurd (b e)
+
+pub damage_found : (e : Halt) (fs : Files) (f at : ℕ) (old now : Option (List ℕ)) → e ≡ halt.Damaged f at
+    → Found e fs old now → ((s : State) → Stands s fs → IsWhole e) → (fs ≡ Damaged f at) × Appends old now []
+damage_found e fs f at old now is (inl found) whole = absurd (subst IsWhole is (whole found.0 found.1))
+damage_found e fs f at old now is (inr untold) whole = (subst (IsOfFiles fs) is untold.0, untold.1)
+
+-- a room that is shown
+pub ends_shown : (fs : Files) (s : State) (old now : Option (List ℕ)) (status : ℕ) → Stands s fs
+    → (status ≡ 0) ⊎ (status ≡ 1) ⊎ (status ≡ 4) → (status ≡ 0 → Appends old now (room_line s))
+    → (n : ℕ) × Appends old now (take n (room_line s)) → Ends fs (Runs []) (opened fs room_line) ⊥ old now status
+ends_shown fs s old now status stands which all part =
+    let o = opened fs room_line in
+    let says : o ≡ record { status = 0; text = room_line s } = opened_is s fs room_line stands in
+    let text : room_line s ≡ o.text = sym (ap (λ x. x.text) says) in
+    ends_by fs (Runs []) o ⊥ old now 0 status (sym (ap (λ x. x.status) says))
+    (λ e. omega (arith, e), λ e. omega (arith, e), λ e. omega (arith, e), λ e. omega (arith, e)) which
+    (λ a b. subst (Appends old now) text (all (done which a b)))
+    (part.0, subst (λ t. Appends old now (take part.0 t)) text part.1)
+  where
+    done : (status ≡ 0) ⊎ (status ≡ 1) ⊎ (status ≡ 4) → (status ≡ 1 → ⊥) → (status ≡ 4 → ⊥) → status ≡ 0
+    done (inl e) a b = e
+    done (inr (inl e)) a b = absurd (a e)
+    done (inr (inr e)) a b = absurd (b e)
+
+-- where the source may have failed too
+pub ends_wider : (fs : Files) (task : Task) (o : Outcome) (rose : Type 0) (old now : Option (List ℕ)) (status : ℕ)
+    → Ends fs task o ⊥ old now status → Ends fs task o rose old now status
+ends_wider fs task o rose old now status e = record {
+  own = e.own;
+  source = λ three. absurd ((e.source three).0);
+  disk = e.disk;
+  part = (e.part.0, e.part.1, wider e.part.0 e.part.2, e.part.3);
+}
+  where
+    wider : (text : List ℕ) → IsText fs task o ⊥ text → IsText fs task o rose text
+    wider text (inl own) = inl own
+    wider text (inr (inl stop)) = inr (inl stop)
+    wider text (inr (inr fault)) = absurd (fault.0)

@@ -1,4 +1,5 @@
 mod Ending
 mod Fronts
 mod Recovering
+mod Refusing
 mod Tasks

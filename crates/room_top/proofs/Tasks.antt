@@ -11,7 +11,7 @@ use Rattle.room_script.specs.Grammar.{schedule_in}
 use Rattle.room_spelled.proofs.Schedules.{are_lines}
 use Rattle.room_top.specs.Commands.{Task, TooLong, BadLine, Runs, as_task, task_in, lines_of}
 
-short : (n : ℕ) → nat_lt 16777216 n ≡ false → n ≤ 16777216
+pub short : (n : ℕ) → nat_lt 16777216 n ≡ false → n ≤ 16777216
 short n is = grind (arith, nat_tests, is)
 
 is_key : (n : ℕ) → n ≤ 16777216 → IsKey n

@@ -16,7 +16,7 @@ use crate::reporting::report;
 use crate::texts::told;
 use room_disk::Disk;
 use room_edge::{Sink, Source};
-use room_fuse::Fused;
+use room_fuse::{Fused, Stopping};
 use room_script::schedule_of;
 use room_tree::Tree;
 use std::alloc::Global;

@@ -7,7 +7,9 @@ mod reporting;
 mod showing;
 mod texts;
 mod top;
+mod wanted;
 mod wanting;
 
 pub use top::run;
-pub use wanting::{Wants, wants};
+pub use wanted::Wants;
+pub use wanting::wants;

@@ -1,5 +1,5 @@
 //! A text is read as a schedule, and runs.
-ghost use Rattle.std.specs.Prelude.{◌≡◌, ◌⊎◌, ◌≤◌, length, true, IfOk, IfErr};
+ghost use Rattle.std.specs.Prelude.{◌≡◌, ◌⊎◌, ◌≤◌, ℕ, length, take, true, IfOk, IfErr};
 ghost use Rattle.std.specs.Io.KnownBytes.{Appends};
 ghost use Rattle.room_edge.specs.Causes.{Rose};
 ghost use Rattle.room_host.specs.Seen.{room_files};
@@ -10,14 +10,14 @@ ghost use Rattle.room_script.specs.Forms.{AreScheduled};
 ghost use Rattle.room_script.specs.Forms.{lines_of as told_lines};
 ghost use Rattle.room_top.specs.Commands.{Runs, task_in, lines_of};
 ghost use Rattle.room_top.specs.Ending.{Ends};
-ghost use Rattle.room_top.specs.Outcome.{outcome_of, IsRefused};
+ghost use Rattle.room_top.specs.Outcome.{outcome_of, damaged_line};
 ghost use Rattle.room_top.specs.Recovery.{Recovers};
 ghost use Rattle.room_top.specs.Refusing.{IsRefusal, Refuses};
 
 use crate::texts::{bad_line, damaged_line, told};
 use room_disk::Disk;
 use room_edge::Sink;
-use room_fuse::Fused;
+use room_fuse::{Fused, Stopping};
 use room_run::{Halt, replay};
 use room_script::{Line, Schedule, ScriptFault, read_schedule};
 use room_tree::Tree;

@@ -1,5 +1,6 @@
 //! The room of a disk's files is recovered and shown.
-ghost use Rattle.std.specs.Prelude.{◌≡◌, ◌⊎◌, ◌≤◌, [], true, IfOk, IfErr, OnOk};
+ghost use Rattle.std.specs.Prelude.{◌≡◌, ◌⊎◌, ℕ, [], take, true, IfOk, IfErr};
+ghost use Rattle.std.specs.Io.KnownBytes.{Appends};
 ghost use Rattle.room_disk.specs.Model.{WithinWhole};
 ghost use Rattle.room_edge.specs.Causes.{Rose};
 ghost use Rattle.room_host.specs.Seen.{room_files};

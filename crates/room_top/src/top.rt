@@ -15,7 +15,7 @@ use crate::showing::show;
 use crate::texts::told;
 use room_disk::Disk;
 use room_edge::{Sink, Source};
-use room_fuse::Fused;
+use room_fuse::{Fused, Stopping};
 use room_tree::Tree;
 use room_words::{Command, command_of};
 use std::alloc::Global;

@@ -1,27 +1,15 @@
-//! What a command wants of the outside.
+//! What words want of the outside.
 ghost use Rattle.std.specs.Prelude.{◌≡◌, IfOk, option_map};
 ghost use Rattle.room_top.specs.Wanting.{address_in, file_in, folder_in, serves_in};
 
+use crate::wanted::Wants;
 use room_json::{NoMemory, Text};
 use room_words::command_of;
 use std::alloc::Global;
 
-/// What a command wants of the outside.
-#[derive(Debug, PartialEq, Eq, Drop)]
-pub struct Wants {
-    /// The folder of its files.
-    pub folder: Option<Text>,
-    /// The address that it serves or dials.
-    pub address: Option<Text>,
-    /// Whether it serves.
-    pub serves: bool,
-    /// The file of its table of rooms.
-    pub table: Option<Text>,
-}
-
 /// A copy of a word, where there is one.
 fn copied(alloc: Global, word: Option<&str>) -> Result<Option<Text>, NoMemory>
-    ensures { IfOk result (λ w. w ≡ option_map (λ s. s.now) word) }
+    ensures { IfOk result (λ w. w ≡ option_map (λ s. s.now) word.entry) }
 {
     match word {
         Some(word) => Ok(Some(Text::from_str(alloc, word)?)),
