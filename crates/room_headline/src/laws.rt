@@ -2,9 +2,9 @@
 ghost use Rattle.room_headline.specs.Headline.{EverywhereHolds};
 
 /// At every line of every run from a valid state, over lines that a schedule can spell: the log is valid, only grows,
-/// and the server stands where it leads; each batch of a client is in it once, whole and in order, and it holds what was
-/// acknowledged; a client shows the log's tree with what is unacknowledged on top; and where it takes back a batch that
-/// nothing else touched, the tree is as if neither had been.
+/// and the server stands where it leads; each batch of a client is in it once, whole and in order, and it holds what
+/// was acknowledged; a client shows the log's tree with what is unacknowledged on top; and where it takes back a batch
+/// that nothing else touched, the tree is as if neither had been.
 #[tactic(auto, using(crate::proofs::Everywhere::everywhere))]
 pub fn holds_everywhere()
     ensures { EverywhereHolds }
