@@ -1,3 +1,4 @@
 pub mod Adding
 pub mod Clocks
 pub mod Everywhere
+pub mod Following
