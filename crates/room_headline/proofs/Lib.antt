@@ -2,3 +2,4 @@ pub mod Adding
 pub mod Clocks
 pub mod Everywhere
 pub mod Following
+pub mod Recovered

@@ -68,8 +68,8 @@ pub record Holds (s : State) (done : List (ℕ × Line)) : Type 0 where
 
 -- What the line behind these does to the log: its entries come behind what was there. It tries to add these, and after
 -- them at most the one whose commit the disk stopped in; each follows. So where an image stands for the state before
--- the line with a first part of what it tries, it stands for the state of a first part of the log behind the line, or of
--- that log with the one under way.
+-- the line with a first part of what it tries, it stands for the state of a first part of the log behind the line, or
+-- of that log with the one under way.
 pub record Adds (s : State) (done : List (ℕ × Line)) (l : ℕ × Line) : Type 0 where
   pub entries : List Entry
   pub log : (run (opened s) (done ++ l ∷ [])).log ≡ (run (opened s) done).log ++ entries

@@ -1,5 +1,8 @@
 //! What follows from the definitions alone.
 ghost use Rattle.room_headline.specs.Headline.{EverywhereHolds};
+ghost use Rattle.room_headline.specs.Recovering.{EachIsFound};
+
+use room_fuse::Stopping;
 
 /// At every line of every run from a valid state, over lines that a schedule can spell: the log is valid, only grows,
 /// and the server stands where it leads; each batch of a client is in it once, whole and in order, and it holds what
@@ -8,4 +11,11 @@ ghost use Rattle.room_headline.specs.Headline.{EverywhereHolds};
 #[tactic(auto, using(crate::proofs::Everywhere::everywhere))]
 pub fn holds_everywhere()
     ensures { EverywhereHolds }
+{}
+
+/// Where lines were run one after the other, whatever a stop leaves of the disk, at any moment from their beginning to
+/// their end, stands for the state of a valid log: that of the run after some of the lines, with a first part of what
+/// the next one tries to add.
+pub fn each_is_found<D: Stopping>()
+    ensures { EachIsFound D.inner_images }
 {}
