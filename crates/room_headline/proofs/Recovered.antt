@@ -1,6 +1,6 @@
 -- Each image stands for a log, at each moment of a run over lines.
 use Rattle.std.proofs.Common.{◌≡◌, ◌≤◌, ◌<◌, ℕ, zero, suc, List, [], ◌∷◌, ◌++◌, take, drop}
-use Rattle.std.proofs.Common.{append_assoc, refl, sym, ap, ◌∙◌, subst, arith, ⊎_elim}
+use Rattle.std.proofs.Common.{Option, append-nil, append_assoc, refl, sym, ap, ◌∙◌, subst, arith, ⊎_elim}
 use Rattle.std.proofs.lemmas.Bool.{cases_lt}
 use Rattle.room_disk.specs.Model.{Reads, Images}
 use Rattle.room_log.specs.Log.{State, Entry, after, state_after}
@@ -13,7 +13,8 @@ use Rattle.room_laws.proofs.SoundLines.{state_after-append}
 use Rattle.room_moves.specs.Moments.{OfFirst}
 use Rattle.room_replay.specs.Files.{StandsFor}
 use Rattle.room_world.specs.Trying.{tries}
-use Rattle.room_run.specs.Running.{Along, At, InLine, after_lines}
+use Rattle.room_run.specs.Running.{Along, At, Broken, InLine, Replayed, after_lines}
+use Rattle.room_run.specs.declared.halt.Halt.{Halt}
 use Rattle.room_headline.specs.Headline.{Headline}
 use Rattle.room_headline.specs.Recovering.{Found}
 use Rattle.room_headline.proofs.Everywhere.{everywhere}
@@ -124,3 +125,62 @@ pub each_is_found : {D : Type 0} (images : D → Images) (s : State) (ls : List 
     → (ls ≡ [] → At (images disk) till (StandsFor 0 s)) → from ≤ m → m ≤ till
     → ((f : ℕ) → images disk m f (image f)) → Found s ls image
 each_is_found images s ls disk = at_each s ls (images disk)
+
+-- a replay that came to its end
+
+ended : (s : State) (ls : List (ℕ × Line)) (images : Images) (held now : Option (List ℕ)) (from till m : ℕ)
+    (image : Reads) → IsValidState s → AreLines ls → (h : Replayed images s ls held now from till) → h.opened ≤ m
+    → m ≤ till → ((f : ℕ) → images m f (image f)) → Found s ls image
+ended s ls images held now from till m image valid are h later sooner each =
+    let ran = h.ran in
+    let all : ran.done ≡ ls = sym (append-nil ran.done) ∙ ran.lines_are in
+    let none : ls ≡ [] → At images till (StandsFor 0 s) =
+    λ (e : ls ≡ []).
+    subst (λ (z : State). At images till (StandsFor 0 z))
+    (ap (λ (v : World). state_in v.host) (ran.world_is ∙ ap (after_lines (opening s)) (all ∙ e))) ran.ends in
+    at_each s ls images h.opened till m image valid are
+    (subst (λ (ds : List (ℕ × Line)). Along images (opening s) ds h.opened till) all ran.along) none later sooner each
+
+pub replay_is_found : {D : Type 0} (images : D → Images) (s : State) (ls : List (ℕ × Line)) (disk : D)
+    (held now : Option (List ℕ)) (from till m : ℕ) (image : Reads) → IsValidState s → AreLines ls
+    → (h : Replayed (images disk) s ls held now from till) → h.opened ≤ m → m ≤ till
+    → ((f : ℕ) → images disk m f (image f)) → Found s ls image
+replay_is_found images s ls disk = ended s ls (images disk)
+
+-- and one that ended within a line
+
+wider : (w : World) (ls more all : List (ℕ × Line)) (image : Reads) → ls ++ more ≡ all → Within w [] ls image
+    → Within w [] all image
+wider w ls more all image is h = record {
+  before = h.before;
+  line = h.line;
+  left = h.left ++ more;
+  lines_are = sym (append_assoc h.before (h.line ∷ h.left) more) ∙ ap (λ xs. xs ++ more) h.lines_are ∙ is;
+  first = h.first;
+}
+
+in_last : (images : Images) (w : World) (till m : ℕ) (image : Reads) → m ≤ till → ((f : ℕ) → images m f (image f))
+    → (done : List (ℕ × Line)) (l : ℕ × Line) (from : ℕ) → Along images w (done ++ l ∷ []) from till → from ≤ m
+    → Within w [] (done ++ l ∷ []) image
+in_last images w till m image sooner each [] l from along later =
+    within images w till m image sooner each [] l [] from along later
+in_last images w till m image sooner each (d ∷ ds) l from along later =
+    within images w till m image sooner each [] d (ds ++ l ∷ []) from along later
+
+broke : (fault : Halt) (s : State) (ls : List (ℕ × Line)) (images : Images) (held now : Option (List ℕ))
+    (from till m : ℕ) (image : Reads) → IsValidState s → AreLines ls
+    → (h : Broken fault images s ls held now from till) → h.opened ≤ m → m ≤ till
+    → ((f : ℕ) → images m f (image f)) → Found s ls image
+broke fault s ls images held now from till m image valid are h later sooner each =
+    let last = h.halted in
+    let all : (last.done ++ last.line ∷ []) ++ last.left ≡ ls =
+    append_assoc last.done (last.line ∷ []) last.left ∙ last.lines_are in
+    found s ls image valid are
+    (wider (opening s) (last.done ++ last.line ∷ []) last.left ls image all
+    (in_last images (opening s) till m image sooner each last.done last.line h.opened last.along later))
+
+pub broken_is_found : {D : Type 0} (images : D → Images) (fault : Halt) (s : State) (ls : List (ℕ × Line)) (disk : D)
+    (held now : Option (List ℕ)) (from till m : ℕ) (image : Reads) → IsValidState s → AreLines ls
+    → (h : Broken fault (images disk) s ls held now from till) → h.opened ≤ m → m ≤ till
+    → ((f : ℕ) → images disk m f (image f)) → Found s ls image
+broken_is_found images fault s ls disk = broke fault s ls (images disk)

@@ -1,6 +1,6 @@
 //! What follows from the definitions alone.
 ghost use Rattle.room_headline.specs.Headline.{EverywhereHolds};
-ghost use Rattle.room_headline.specs.Recovering.{EachIsFound};
+ghost use Rattle.room_headline.specs.Recovering.{BrokenIsFound, EachIsFound, ReplayIsFound};
 
 use room_fuse::Stopping;
 
@@ -15,7 +15,10 @@ pub fn holds_everywhere()
 
 /// Where lines were run one after the other, whatever a stop leaves of the disk, at any moment from their beginning to
 /// their end, stands for the state of a valid log: that of the run after some of the lines, with a first part of what
-/// the next one tries to add.
+/// the next one tries to add. So it does since a replay opened the room, whether it came to its end or ended within a
+/// line.
 pub fn each_is_found<D: Stopping>()
-    ensures { EachIsFound D.inner_images }
+    ensures along { EachIsFound D.inner_images }
+    ensures ended { ReplayIsFound D.inner_images }
+    ensures broke { BrokenIsFound D.inner_images }
 {}
