@@ -135,7 +135,7 @@ peer_still w number k = peer_at w number k (get w.conns k)
 
 -- a move of a drain
 
-move_tried : (w : World) (number : ℕ) (i o : Option ℕ)
+pub move_tried : (w : World) (number : ℕ) (i o : Option ℕ)
     → Tried (World.or_quiet w (World.drain_step w number i o)) (move_tries w i)
 move_tried w number (Some k) o = receives w k
 move_tried w number None (Some k) = inl (sym (peer_still w number k).none)
@@ -162,17 +162,17 @@ none_tried : (w : World) (s : State) (i : Option ℕ) → w.host ≡ Stopped s �
 none_tried w s None e = refl
 none_tried w s (Some k) e = ap (λ h. tried_by k h (next_inbound (get w.conns k))) e
 
-abbrev next_in : World → Option ℕ
+abbrev pub next_in : World → Option ℕ
 next_in w = least has_inbound (entries w.conns)
 
-abbrev next_out : World → Option ℕ
+abbrev pub next_out : World → Option ℕ
 next_out w = least has_outbound (entries w.conns)
 
 pub record Rests (w : World) (number n : ℕ) : Type 0 where
   pub tried : drain_tries w number n ≡ []
   pub none : (World.drain w number n).entries ≡ []
 
-rests : (n : ℕ) (w : World) (number : ℕ) (s : State) → w.host ≡ Stopped s → Rests w number n
+pub rests : (n : ℕ) (w : World) (number : ℕ) (s : State) → w.host ≡ Stopped s → Rests w number n
 unfolding World.drain
 rests zero w number s e = record { tried = refl; none = refl }
 rests (suc n) w number s e =

@@ -1,5 +1,5 @@
 -- In a valid log the clocks of each actor run on.
-use Rattle.std.proofs.Common.{◌≡◌, ℕ, zero, suc, ◌+◌, ◌<◌, ◌==◌, Bool, true, false, inl, inr, List, [], ◌∷◌, ◌++◌}
+use Rattle.std.proofs.Common.{◌≡◌, ℕ, zero, suc, ◌+◌, ◌<◌, ◌≤◌, ◌==◌, Bool, true, false, inl, inr, List, [], ◌∷◌, ◌++◌}
 use Rattle.std.proofs.Common.{length, Option, Some, None, refl, sym, ap, ◌∙◌, subst, arith}
 use Rattle.std.specs.Prelude.{slice_get, slice_set}
 use Rattle.std.proofs.lemmas.Bool.{eqb-true, eqb-false}
@@ -7,7 +7,7 @@ use Rattle.std.proofs.lemmas.Option.{slice_get_within, slice_get-get_or}
 use Rattle.std.proofs.lemmas.List.{get_or-set_same}
 use Rattle.std.proofs.Math.ListN.{length-set}
 use Rattle.room_log.specs.Log.{Session, State, Update, Entry, Join, Updated, session_of, last_in, last_of, last_from}
-use Rattle.room_log.specs.Log.{with_last, with_last_at, after, updates_of}
+use Rattle.room_log.specs.Log.{with_last, with_last_at, after, state_after, updates_of}
 use Rattle.room_log.specs.Follows.{IsNextUpdate, IsValidLog}
 use Rattle.room_log.proofs.Following.{follows_exactly}
 use Rattle.room_headline.specs.Headline.{RunOn}
@@ -63,23 +63,23 @@ last_other ss (suc i) (suc j) c e = other_at ss i j c (slice_get ss i) (λ d. e 
 
 -- an update, by whether it is of the actor
 
-updated_on : (s : State) (u : Update) (us : List Update) (a : ℕ) (b : Bool) → (u.actor == a) ≡ b → IsNextUpdate s u
-    → RunOn a (last_of (with_last s.sessions u.actor (last_from u.first u.bodies)) a) us
-    → RunOn a (last_of s.sessions a) (u ∷ us)
-updated_on s u us a true e h more =
-    let own : u.actor ≡ a = eqb-true u.actor a e in
+own_clock : (s : State) (u : Update) (a : ℕ) → u.actor ≡ a → IsNextUpdate s u → (u.first ≡ last_of s.sessions a + 1)
+    × (last_of (with_last s.sessions u.actor (last_from u.first u.bodies)) a ≡ last_of s.sessions a + length u.bodies)
+own_clock s u a own h =
     let known : session_of s.sessions a ≡ Some h.session = ap (session_of s.sessions) (sym own) ∙ h.known in
     let stood : last_of s.sessions a ≡ (h.session).last = ap last_in known in
     let now : last_of (with_last s.sessions u.actor (last_from u.first u.bodies)) a ≡ last_from u.first u.bodies
     = ap (λ (i : ℕ). last_of (with_last s.sessions i (last_from u.first u.bodies)) a) own
     ∙ last_own s.sessions a (last_from u.first u.bodies) h.session known in
-    let next : last_of (with_last s.sessions u.actor (last_from u.first u.bodies)) a
-    ≡ last_of s.sessions a + length u.bodies = omega (arith, now, stood, h.first, h.some) in
-    inl (record {
-      own = own;
-      first = h.first ∙ ap (λ (n : ℕ). n + 1) (sym stood);
-      more = subst (λ n. RunOn a n us) next more;
-    })
+    (h.first ∙ ap (λ (n : ℕ). n + 1) (sym stood), omega (arith, now, stood, h.first, h.some))
+
+updated_on : (s : State) (u : Update) (us : List Update) (a : ℕ) (b : Bool) → (u.actor == a) ≡ b → IsNextUpdate s u
+    → RunOn a (last_of (with_last s.sessions u.actor (last_from u.first u.bodies)) a) us
+    → RunOn a (last_of s.sessions a) (u ∷ us)
+updated_on s u us a true e h more =
+    let own : u.actor ≡ a = eqb-true u.actor a e in
+    let now = own_clock s u a own h in
+    inl (record { own = own; first = now.0; more = subst (λ n. RunOn a n us) now.1 more })
 updated_on s u us a false e h more =
     let other : u.actor ≡ a → ⊥ = eqb-false u.actor a e in
     let same = last_other s.sessions u.actor a (last_from u.first u.bodies) (λ d. other (sym d)) in
@@ -94,3 +94,28 @@ run_on s (Join actor key name ∷ es) a h =
 run_on s (Updated u ∷ es) a h =
     updated_on s u (updates_of es) a (u.actor == a) refl ((follows_exactly s u).0 h.0.0)
     (run_on (after s (Updated u)) es a h.1)
+
+-- and none of them falls
+
+after_own : (s : State) (u : Update) (a : ℕ) (b : Bool) → (u.actor == a) ≡ b → IsNextUpdate s u
+    → last_of s.sessions a ≤ last_of (with_last s.sessions u.actor (last_from u.first u.bodies)) a
+after_own s u a true e h =
+    let own : u.actor ≡ a = eqb-true u.actor a e in
+    let now = own_clock s u a own h in
+    omega (arith, now.0, now.1)
+after_own s u a false e h =
+    let other : u.actor ≡ a → ⊥ = eqb-false u.actor a e in
+    let same = last_other s.sessions u.actor a (last_from u.first u.bodies) (λ d. other (sym d)) in
+    omega (arith, same)
+
+pub last_rises : (s : State) (es : List Entry) (a : ℕ) → IsValidLog s es
+    → last_of s.sessions a ≤ last_of (state_after s es).sessions a
+last_rises s [] a h = omega arith
+last_rises s (Join actor key name ∷ es) a h =
+    let new : Session = record { key = key; last = 0; name = name } in
+    let more = last_rises (after s (Join actor key name)) es a h.1 in
+    omega (arith, more, last_join s.sessions new a refl)
+last_rises s (Updated u ∷ es) a h =
+    let now = after_own s u a (u.actor == a) refl ((follows_exactly s u).0 h.0.0) in
+    let more = last_rises (after s (Updated u)) es a h.1 in
+    omega (arith, now, more)

@@ -1,14 +1,14 @@
 -- The headline, from the laws of every run.
-use Rattle.std.proofs.Common.{◌≡◌, ◌+◌, ℕ, List, [], ◌∷◌, ◌++◌, length, length-append, append-nil}
+use Rattle.std.proofs.Common.{◌≡◌, ◌≤◌, ◌+◌, ℕ, List, [], ◌∷◌, ◌++◌, length, length-append, append-nil}
 use Rattle.std.proofs.Common.{Some, refl, sym, ap, ◌∙◌, subst, arith}
 use Rattle.std.specs.Prelude.{if◌then◌else◌}
 use Rattle.room_nodes.specs.declared.nodes.Body.{Body}
 use Rattle.room_nodes.specs.Shape.{Nodes}
 use Rattle.room_nodes.specs.Steps.{fold}
-use Rattle.room_log.specs.Log.{State, tree_at, state_after}
-use Rattle.room_log.specs.Follows.{IsValidState}
-use Rattle.room_model.specs.Account.{Batch, all_bodies, bodies_in, is_some_list, issued, pending_bodies, shown}
-use Rattle.room_model.specs.Account.{unacknowledged}
+use Rattle.room_log.specs.Log.{State, Entry, after, last_of, tree_at, state_after}
+use Rattle.room_log.specs.Follows.{IsValidLog, IsValidState}
+use Rattle.room_model.specs.Account.{Batch, actor, all_bodies, bodies_in, is_some_list, issued}
+use Rattle.room_model.specs.Account.{pending_bodies, shown, unacknowledged}
 use Rattle.room_model.specs.Lines as lines
 use Rattle.room_model.specs.Lines.{Line}
 use Rattle.room_model.specs.World.{World, account, opening, state_in, step}
@@ -19,11 +19,14 @@ use Rattle.room_laws.specs.Undo.{Course, Lies, call_back, call_of, whole}
 use Rattle.room_laws.specs.Undoing.{TakesBack}
 use Rattle.room_laws.specs.Validity.{AreLines, AreSpelled}
 use Rattle.room_laws.proofs.EveryRun.{every_growth, every_log, every_once, every_shows, every_undo, every_undone}
+use Rattle.room_laws.proofs.EveryRun.{every_world}
+use Rattle.room_laws.proofs.SoundLines.{state_after-append, valid-append}
 use Rattle.room_world.specs.Trying.{tries}
 use Rattle.room_run.specs.Running.{after_lines}
 use Rattle.room_headline.specs.Headline.{Adds, Headline, Holds, HoldsOf, Undoes}
 use Rattle.room_headline.proofs.Adding.{line_ends}
-use Rattle.room_headline.proofs.Clocks.{run_on}
+use Rattle.room_headline.proofs.Clocks.{last_rises, run_on}
+use Rattle.room_headline.proofs.Following.{line_follow}
 
 -- lines before others
 
@@ -74,6 +77,11 @@ settles s r c t h e =
     let none : pending_bodies x ≡ [] = none_on_top (issued x) (bodies_in x.batch) e in
     h.on_top ∙ ap (λ bs. Some (fold (tree_at s r.log x.n) bs)) none
 
+-- what is behind a first part of a valid log
+valid_rest : (s : State) (es fs : List Entry) → IsValidLog s (es ++ fs) → IsValidLog (state_after s es) fs
+valid_rest s [] fs h = h
+valid_rest s (e ∷ es) fs h = valid_rest (after s e) es fs h.1
+
 -- at each line
 
 module _ (s : State) (done : List (ℕ × Line)) (valid : IsValidState s) (are : AreLines done) where
@@ -91,18 +99,38 @@ module _ (s : State) (done : List (ℕ × Line)) (valid : IsValidState s) (are :
         (subst (λ (r : Run). TakesBack s r c t made back us vs ws b u) same takes);
   }
 
+  state_is : state_in (run (opened s) done).world.host ≡ state_after s (run (opened s) done).log
+  state_is = (every_growth s done [] valid (subst AreLines (sym (append-nil done)) are)).stands
+
+  -- what was acknowledged stays, whatever valid log comes behind
+  recovered : (c : ℕ) → IsUndisturbed (run (opened s) done) c → (more : List Entry)
+      → IsValidLog s ((run (opened s) done).log ++ more)
+      → (account (run (opened s) done).world c).told
+      ≤ last_of (state_after s ((run (opened s) done).log ++ more)).sessions
+      (actor (account (run (opened s) done).world c))
+  recovered c alone more h =
+      let r = run (opened s) done in
+      let a = actor (account r.world c) in
+      let now = (every_once s done c valid are alone).acknowledged in
+      let here : last_of (state_in r.world.host).sessions a ≡ last_of (state_after s r.log).sessions a
+      = ap (λ (z : State). last_of z.sessions a) state_is in
+      let later = last_rises (state_after s r.log) more a (valid_rest s r.log more h) in
+      let whole : last_of (state_after s (r.log ++ more)).sessions a
+      ≡ last_of (state_after (state_after s r.log) more).sessions a
+      = ap (λ (z : State). last_of z.sessions a) (state_after-append s r.log more) in
+      omega (arith, now, here, later, whole)
+
   client : (c : ℕ) → IsUndisturbed (run (opened s) done) c → HoldsOf s done c
   client c alone = record {
     once = every_once s done c valid are alone;
+    recovered = recovered c alone;
     shows = λ t e. every_shows s done c t valid are alone e;
     settled = λ t e none. settles s (run (opened s) done) c t (every_shows s done c t valid are alone e) none;
     undoes = undoes c alone;
   }
 
   stands : state_in (after_lines (opening s) done).host ≡ state_after s (run (opened s) done).log
-  stands =
-      let all = subst AreLines (sym (append-nil done)) are in
-      ap (λ (w : World). state_in w.host) (sym (world_is done (opened s))) ∙ (every_growth s done [] valid all).stands
+  stands = ap (λ (w : World). state_in w.host) (sym (world_is done (opened s))) ∙ state_is
 
   holds : Holds s done
   holds = record {
@@ -113,22 +141,27 @@ module _ (s : State) (done : List (ℕ × Line)) (valid : IsValidState s) (are :
     clients = client;
   }
 
--- what the line behind these adds
-adds : (s : State) (done : List (ℕ × Line)) (l : ℕ × Line) → Adds s done l
-adds s done l =
-    let r = run (opened s) done in
-    let h = line_ends r.world l.0 l.1 in
-    record {
-      entries = (step r.world l.0 l.1).entries;
-      log = ap (λ (z : Run). z.log) (run_append done (l ∷ []) (opened s));
-      dropped = h.dropped;
-      tries = ap (λ (w : World). tries w l.0 l.1) (sym (world_is done (opened s))) ∙ h.is;
-    }
+  -- what the line behind these adds
+  adds : (l : ℕ × Line) → Adds s done l
+  adds l =
+      let r = run (opened s) done in
+      let h = line_ends r.world l.0 l.1 in
+      let follow = line_follow (length done) r.world l.0 l.1 (every_world s done valid are) in
+      let behind = subst (λ t. IsValidLog t (tries r.world l.0 l.1)) state_is follow in
+      record {
+        entries = (step r.world l.0 l.1).entries;
+        log = ap (λ (z : Run). z.log) (run_append done (l ∷ []) (opened s));
+        dropped = h.dropped;
+        tries = ap (λ (w : World). tries w l.0 l.1) (sym (world_is done (opened s))) ∙ h.is;
+        valid = subst (λ es. IsValidLog s (r.log ++ es)) h.is
+            (valid-append s r.log (tries r.world l.0 l.1) (every_log s done valid are) behind);
+      }
 
 pub everywhere : (s : State) (ls : List (ℕ × Line)) → IsValidState s → AreLines ls → Headline s ls
 everywhere s ls valid are = record {
   holds = λ done left is. holds s done valid (lines_front done left (subst AreLines (sym is) are));
-  adds = λ done left l is. adds s done l;
+  adds = λ done left l is.
+      adds s done valid (lines_front done (l ∷ left) (subst AreLines (sym is) are)) l;
   grows = λ done left is.
       let g = every_growth s done left valid (subst AreLines (sym is) are) in
       (g.more, ap (λ ms. (run (opened s) ms).log) (sym is) ∙ g.log);

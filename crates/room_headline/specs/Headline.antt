@@ -1,10 +1,10 @@
 -- The headline: what holds of a run at each of its lines.
-use Rattle.std.specs.Prelude.{◌≡◌, ◌+◌, ◌⊎◌, ℕ, List, [], ◌∷◌, ◌++◌, length, Option, Some, ⊤}
+use Rattle.std.specs.Prelude.{◌≡◌, ◌≤◌, ◌+◌, ◌⊎◌, ℕ, List, [], ◌∷◌, ◌++◌, length, Option, Some, ⊤}
 use Rattle.room_nodes.specs.Shape.{Nodes}
 use Rattle.room_nodes.specs.Steps.{fold}
 use Rattle.room_log.specs.Log.{State, Entry, Update, last_of, tree_after, tree_at, state_after, updates_of}
 use Rattle.room_log.specs.Follows.{IsValidLog, IsValidState}
-use Rattle.room_model.specs.Account.{Batch, shown, unacknowledged}
+use Rattle.room_model.specs.Account.{Batch, actor, shown, unacknowledged}
 use Rattle.room_model.specs.Lines.{Line}
 use Rattle.room_model.specs.World.{account, entries_in, opening, state_in}
 use Rattle.room_model.specs.Run.{run, opened, IsUndisturbed}
@@ -40,6 +40,11 @@ pub record Undoes (s : State) (done : List (ℕ × Line)) (c : ℕ) : Type 0 whe
 pub record HoldsOf (s : State) (done : List (ℕ × Line)) (c : ℕ) : Type 0 where
   -- each batch once, those that were acknowledged too; all others it holds
   pub once : Kept s (run (opened s) done) c
+  -- and whatever valid log goes on from there holds these
+  pub recovered : (more : List Entry) → IsValidLog s ((run (opened s) done).log ++ more)
+      → (account (run (opened s) done).world c).told
+      ≤ last_of (state_after s ((run (opened s) done).log ++ more)).sessions
+      (actor (account (run (opened s) done).world c))
   -- what it shows
   pub shows : (t : Nodes) → (account (run (opened s) done).world c).confirmed ≡ Some t
       → ShowsLog s (run (opened s) done) c t
@@ -62,13 +67,15 @@ pub record Holds (s : State) (done : List (ℕ × Line)) : Type 0 where
   pub clients : (c : ℕ) → IsUndisturbed (run (opened s) done) c → HoldsOf s done c
 
 -- What the line behind these does to the log: its entries come behind what was there. It tries to add these, and after
--- them at most the one whose commit the disk stopped in. So where an image stands for the state before the line with a
--- first part of what it tries, it stands for the state of a first part of the log, or of that with the one under way.
+-- them at most the one whose commit the disk stopped in; each follows. So where an image stands for the state before
+-- the line with a first part of what it tries, it stands for the state of a first part of the log behind the line, or
+-- of that log with the one under way.
 pub record Adds (s : State) (done : List (ℕ × Line)) (l : ℕ × Line) : Type 0 where
   pub entries : List Entry
   pub log : (run (opened s) (done ++ l ∷ [])).log ≡ (run (opened s) done).log ++ entries
   pub dropped : Option Entry
   pub tries : tries (after_lines (opening s) done) l.0 l.1 ≡ entries ++ entries_in dropped
+  pub valid : IsValidLog s ((run (opened s) done).log ++ (entries ++ entries_in dropped))
 
 -- at every line, and what was there before it stays in the log
 pub record Headline (s : State) (ls : List (ℕ × Line)) : Type 0 where
