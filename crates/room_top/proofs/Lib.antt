@@ -1,3 +1,4 @@
+mod Commanding
 mod Ending
 mod Fronts
 mod Recovering

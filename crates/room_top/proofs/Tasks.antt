@@ -17,7 +17,7 @@ short n is = grind (arith, nat_tests, is)
 is_key : (n : ℕ) → n ≤ 16777216 → IsKey n
 is_key n h = omega (arith, h)
 
-no_lines : AreLines []
+pub no_lines : AreLines []
 no_lines = record { spelled = tt; fewer = omega arith }
 
 as_lines : (bs : List ℕ) (r : Result (List (ℕ × Line)) ℕ) → schedule_in bs ≡ r → IsKey (length bs)
