@@ -13,7 +13,7 @@ use room_disk::SureDisk;
 use room_edge::{Sink, Source};
 use room_fuse::Fused;
 use room_real::Folder;
-use room_top::{run, wants};
+use room_top::{Wants, run, wants};
 use room_tree::Tree;
 use std::alloc::Global;
 use std::fs::File;
@@ -83,13 +83,16 @@ fn run_on<T: Tree, S: Source, K: Sink, R: Files<File = File> + Drop>(
         → IsComplete (command_in words.now) New (S.left source.old) result }
 {
     match wants(alloc, words) {
-        Ok(wants) => match wants.folder {
-            Some(path) => {
-                let folder = Folder::new(alloc, system, path);
-                run_in_folder::<T, S, K, R>(alloc, folder, words, source, sink)
+        Ok(wants) => {
+            let Wants { folder, .. } = wants;
+            match folder {
+                Some(path) => {
+                    let folder = Folder::new(alloc, system, path);
+                    run_in_folder::<T, S, K, R>(alloc, folder, words, source, sink)
+                }
+                None => run_in_memory::<T, S, K>(alloc, words, source, sink),
             }
-            None => run_in_memory::<T, S, K>(alloc, words, source, sink),
-        },
+        }
         Err(_) => 1,
     }
 }

@@ -1,16 +1,16 @@
 -- How a run ends.
-use Rattle.std.proofs.Common.{◌≡◌, ◌⊎◌, inl, inr, ⊎_elim, ℕ, List, [], ◌∷◌, ◌++◌, length, take, Option, Result, Ok, Err}
+use Rattle.std.proofs.Common.{◌≡◌, ◌⊎◌, inl, inr, ⊎_elim, ℕ, List, [], ◌∷◌, ◌++◌, length, take, Option, Err}
 use Rattle.std.proofs.Common.{refl, sym, ap, ◌∙◌, append-nil, subst, arith}
-use Rattle.std.proofs.KnownBytes.{Appends-nil, Appends-trans}
+use Rattle.std.proofs.KnownBytes.{Appends-trans}
 use Rattle.std.specs.Io.KnownBytes.{Appends}
 use Rattle.room_disk.specs.Model.{Images}
-use Rattle.room_log.specs.Log.{State, empty_state}
+use Rattle.room_log.specs.Log.{State}
 use Rattle.room_model.specs.Lines.{Line}
 use Rattle.room_model.specs.Run.{report, report_from}
 use Rattle.room_model.specs.World.{opening, step}
 use Rattle.room_replay.specs.Files.{Files, New, Room, Damaged, Stands}
 use Rattle.room_run.specs.Halting.{IsOfDisk, IsOfFiles, IsWhole}
-use Rattle.room_run.specs.Running.{Halted, Replayed, Unopened, Broken, Replays, after_lines, text_behind}
+use Rattle.room_run.specs.Running.{Halted, Replayed, Replays, after_lines, text_behind}
 use Rattle.room_run.specs.declared.halt.Halt.{Halt}
 use Rattle.room_run.specs.declared.halt.Halt.TheVariants as halt
 use Rattle.room_top.specs.Commands.{Task, Runs}
@@ -203,9 +203,11 @@ ends_damaged fs ls tell f at old mid now status is untold which all part =
     ends_by fs (Runs ls) o ⊥ old now 7 status (sym (ap (λ x. x.status) says))
     (λ e. omega (arith, e), λ e. omega (arith, e), λ e. omega (arith, e), λ e. omega (arith, e)) which
     (λ a b. subst (Appends old now) text
-    (Appends-trans old mid now [] (damaged_line f at) untold (all (seven which a b))))
-    (part.0, subst (λ t. Appends old now (take part.0 t)) text
-    (Appends-trans old mid now [] (take part.0 (damaged_line f at)) untold part.1))
+    (Appends-trans old mid now [] (damaged_line f at) untold (all (seven which a b)))) (
+      part.0,
+      subst (λ t. Appends old now (take part.0 t)) text
+          (Appends-trans old mid now [] (take part.0 (damaged_line f at)) untold part.1),
+    )
   where
     seven : (status ≡ 7) ⊎ (status ≡ 1) ⊎ (status ≡ 4) → (status ≡ 1 → ⊥) → (status ≡ 4 → ⊥) → status ≡ 7
     seven (inl e) a b = e

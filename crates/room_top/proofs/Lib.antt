@@ -1,4 +1,4 @@
-mod Commanding
+pub mod Commanding
 mod Ending
 mod Fronts
 mod Recovering

@@ -1,15 +1,15 @@
 -- What a stop leaves of a run that ended.
-use Rattle.std.proofs.Common.{◌≡◌, ◌⊎◌, inl, inr, ⊎_elim, ℕ, List, [], ◌∷◌, ◌++◌, Option, Result, Ok, Err, refl, sym, ap, ◌∙◌}
+use Rattle.std.proofs.Common.{◌≡◌, inl, inr, ⊎_elim, ℕ, List, [], ◌∷◌, ◌++◌, Option, Err, refl, sym, ◌∙◌}
 use Rattle.std.proofs.Common.{append_assoc, subst}
 use Rattle.std.proofs.Math.Nat.{le_refl, le_antisymm}
 use Rattle.room_disk.specs.Model.{Reads, Images, WholeBetween}
 use Rattle.room_host.proofs.Lying.{stands_state}
 use Rattle.room_log.specs.Log.{State}
 use Rattle.room_model.specs.Lines.{Line}
-use Rattle.room_model.specs.World.{World, opening, state_in}
+use Rattle.room_model.specs.World.{World, state_in}
 use Rattle.room_replay.specs.Files.{Files, Damaged, Stands, StandsFor}
 use Rattle.room_run.specs.Halting.{IsDone, IsOfOpening}
-use Rattle.room_run.specs.Running.{Halted, Replayed, Unopened, Broken, Replays, InOpening, after_lines}
+use Rattle.room_run.specs.Running.{Replayed, Replays, InOpening}
 use Rattle.room_run.specs.declared.halt.Halt.{Halt}
 use Rattle.room_run.specs.declared.halt.Halt.TheVariants as halt
 use Rattle.room_store.specs.Consistent.{BeforeOr}

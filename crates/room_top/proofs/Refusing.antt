@@ -1,11 +1,11 @@
 -- A text that runs no line.
-use Rattle.std.proofs.Common.{◌≡◌, ◌≤◌, ◌⊎◌, inl, inr, ℕ, Bool, true, false, cond, List, length, take, Option, Result}
-use Rattle.std.proofs.Common.{Ok, Err, refl, sym, ap, ◌∙◌, subst, arith}
+use Rattle.std.proofs.Common.{◌≡◌, ◌≤◌, ◌⊎◌, inl, inr, ℕ, Bool, true, false, cond, List, length, Option}
+use Rattle.std.proofs.Common.{refl, sym, subst, arith}
 use Rattle.std.specs.Prelude.{nat_lt}
 use Rattle.std.specs.Io.KnownBytes.{Appends}
 use Rattle.room_replay.specs.Files.{Files}
 use Rattle.room_script.specs.Grammar.{schedule_in}
-use Rattle.room_top.specs.Commands.{Task, TooLong, BadLine, Runs, as_task, task_in}
+use Rattle.room_top.specs.Commands.{Task, TooLong, BadLine, as_task, task_in}
 use Rattle.room_top.specs.Ending.{Ends, IsOwn}
 use Rattle.room_top.specs.Outcome.{outcome_of}
 use Rattle.room_top.specs.Refusing.{IsRefusal, Refuses}

@@ -9,7 +9,7 @@ use Rattle.room_log.specs.Follows.{IsKey}
 use Rattle.room_model.specs.Lines.{Line}
 use Rattle.room_script.specs.Grammar.{schedule_in}
 use Rattle.room_spelled.proofs.Schedules.{are_lines}
-use Rattle.room_top.specs.Commands.{Task, TooLong, BadLine, Runs, as_task, task_in, lines_of}
+use Rattle.room_top.specs.Commands.{TooLong, as_task, task_in, lines_of}
 
 pub short : (n : ℕ) → nat_lt 16777216 n ≡ false → n ≤ 16777216
 short n is = grind (arith, nat_tests, is)

@@ -1,5 +1,5 @@
 -- What a command makes of its input and of the files: a status, and what is written.
-use Rattle.std.specs.Prelude.{◌≡◌, ◌≤◌, ◌⊎◌, ℕ, nat_le, Bool, ◌||◌, ◌==◌, List, [], ◌∷◌, ◌++◌, length, Option, Some, None}
+use Rattle.std.specs.Prelude.{◌≤◌, ℕ, nat_le, Bool, ◌||◌, ◌==◌, List, [], ◌∷◌, length, Option}
 use Rattle.std.specs.Prelude.{codes, decimal}
 use Rattle.std.specs.Io.KnownBytes.{Consumes}
 use Rattle.room_log.specs.Log.{State, empty_state}

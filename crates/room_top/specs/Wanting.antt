@@ -1,5 +1,5 @@
 -- What a command wants of the outside.
-use Rattle.std.specs.Prelude.{◌≡◌, Bool, false, List, map, Option, Some, None, option_and_then}
+use Rattle.std.specs.Prelude.{Bool, false, List, map, Option, Some, None, option_and_then}
 use Rattle.std.specs.Prelude.{String, string_bytes}
 use Rattle.std.specs.Global.{Global}
 use Rattle.room_words.specs.Words.{Text, Told, folder_of, address_of, file_of, serves, command_of}

@@ -1,7 +1,6 @@
 use Rattle.std.proofs.Common.{ℕ, List, inl, refl, subst, ◌∙◌, arith}
 use Rattle.std.proofs.KnownBytes.{Appends-nil}
 use Rattle.room_edge.specs.Causes.{Rose}
-use Rattle.room_model.specs.Lines.{Line}
 use Rattle.room_top.specs.Commands.{task_in, lines_of}
 use Rattle.room_top.specs.Recovery.{Recovers}
 use Rattle.room_top.proofs.Ending.{ends_short}

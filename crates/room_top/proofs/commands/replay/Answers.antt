@@ -1,4 +1,4 @@
-use Rattle.std.proofs.Common.{ℕ, List, inl, refl, subst, ap, ◌∙◌, arith}
+use Rattle.std.proofs.Common.{inl, refl, subst, ap, ◌∙◌, arith}
 use Rattle.std.proofs.KnownBytes.{Appends-nil}
 use Rattle.room_edge.specs.Causes.{Rose}
 use Rattle.room_host.specs.Seen.{room_files}

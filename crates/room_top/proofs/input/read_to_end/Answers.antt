@@ -8,7 +8,13 @@ returns-then-is_err-clause-takes g c =
     let kept = c.loop-buffer.bytes.items in
     let read = take c.in-Ok.count c.read.new.into in (
       kept ++ read,
-      omega (arith, length-append kept read, length-take c.in-Ok.count c.read.new.into,
-          length-take c.min-room.result c.loop-buffer.buffer, c.read.auto.into, c.min-room.ensures),
+      omega (
+        arith,
+        length-append kept read,
+        length-take c.in-Ok.count c.read.new.into,
+        length-take c.min-room.result c.loop-buffer.buffer,
+        c.read.auto.into,
+        c.min-room.ensures,
+      ),
       Consumes-trans _ _ _ _ _ c.loop-buffer.invariant.0 c.in-Ok.ensures.bytes.0,
     )

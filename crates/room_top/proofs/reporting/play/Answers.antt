@@ -1,13 +1,6 @@
 use Rattle.std.proofs.Common.{inl, inr, refl, sym, ap, subst, arith, Err}
-use Rattle.room_host.specs.Seen.{room_files}
-use Rattle.room_log.specs.Log.{State}
-use Rattle.room_model.specs.Run.{report}
-use Rattle.room_replay.specs.Files.{Stands}
 use Rattle.room_run.specs.Halting.{IsDone, IsOfDisk, IsWhole}
 use Rattle.room_run.specs.declared.halt.Halt.{Halt}
-use Rattle.room_script.specs.Forms.{lines_of as told_lines}
-use Rattle.room_top.specs.Commands.{Runs}
-use Rattle.room_top.specs.Outcome.{outcome_of}
 use Rattle.room_top.proofs.Ending.{ends_played, ends_short, ends_stop, ends_damaged, begun_text, first_text}
 use Rattle.room_top.proofs.Ending.{damage_found}
 use Rattle.room_top.proofs.Recovering.{recovers_done, recovers_halted}

@@ -4,7 +4,7 @@ use Rattle.room_edge.specs.Causes.{Rose}
 use Rattle.room_model.specs.Lines.{Line}
 use Rattle.room_script.specs.Forms.{lines_of as told_lines}
 use Rattle.room_script.specs.declared.lines.Line as told_line
-use Rattle.room_top.specs.Commands.{task_in, lines_of}
+use Rattle.room_top.specs.Commands.{lines_of}
 use Rattle.room_top.specs.Recovery.{Recovers}
 use Rattle.room_top.proofs.Recovering.{recovers_none, opens_nothing}
 use Rattle.room_top.proofs.Refusing.{which_refused, ends_refused, own_refused, short_refused}
@@ -44,11 +44,19 @@ returns-in-Err-clause-recovers g c told s stands =
     let d = g.D.Disk in
     let was = c.args.disk.now.inner in
     recovers_none (d.images was) (d.seen was) s _ _ _ _ c.refuse.result
-    (λ e. absurd (omega (arith, e, which_refused c.in-Err.refusal _ _ _ _
-    (c.refuse.ensures.refuses (room_files (d.seen was))))))
+    (λ e. absurd (omega (
+      arith,
+      e,
+      which_refused c.in-Err.refusal _ _ _ _
+          (c.refuse.ensures.refuses (room_files (d.seen was))),
+    )))
     (opens_nothing _ (d.images was) s) (λ a b. stands)
 
 pub returns-in-Err-clause-disk_fault : goal.returns-in-Err-clause-disk_fault
 returns-in-Err-clause-disk_fault g c five =
-    omega (arith, five, which_refused c.in-Err.refusal _ _ _ _
-    (c.refuse.ensures.refuses (room_files (g.D.Disk.seen c.args.disk.now.inner))))
+    omega (
+      arith,
+      five,
+      which_refused c.in-Err.refusal _ _ _ _
+          (c.refuse.ensures.refuses (room_files (g.D.Disk.seen c.args.disk.now.inner))),
+    )
