@@ -1,7 +1,6 @@
 -- Why a run ended.
-use Rattle.std.proofs.Common.{◌≡◌, ◌≤◌, ◌⊎◌, ⊎_elim, ℕ, Err, refl, sym, ◌∙◌, arith}
-use Rattle.room_edge.specs.Causes.{Rose}
-use Rattle.room_host.specs.Faults.{IsFault, IsWhole as IsWholeHost}
+use Rattle.std.proofs.Common.{◌≡◌, ◌⊎◌, ⊎_elim, ℕ, Err, sym, ◌∙◌}
+use Rattle.room_host.specs.Faults.{IsFault}
 use Rattle.room_host.specs.declared.fault.HostFault.{HostFault}
 use Rattle.room_host.specs.declared.fault.HostFault.TheVariants as host
 use Rattle.room_log.specs.Log.{State, empty_state}
@@ -23,26 +22,10 @@ not_done T host.Memory d = d
 not_done T host.Disk d = d
 not_done T (host.Damaged f at) d = d
 
-pub whole_halt : (f : HostFault) → IsWholeHost f → IsWhole (halt_of f)
-whole_halt host.Memory h = h
-whole_halt host.Disk h = h
-whole_halt (host.Damaged f at) h = h
-
 pub of_opening : (f : HostFault) → IsOfOpening (halt_of f)
 of_opening host.Memory = tt
 of_opening host.Disk = tt
 of_opening (host.Damaged f at) = tt
-
--- which host's fault it was
-pub was_disk : (f : HostFault) → halt_of f ≡ Disk → f ≡ host.Disk
-was_disk host.Memory is = cc
-was_disk host.Disk is = refl
-was_disk (host.Damaged f at) is = cc
-
-pub never_sink : (f : HostFault) → halt_of f ≡ Sink → ⊥
-never_sink host.Memory is = cc
-never_sink host.Disk is = cc
-never_sink (host.Damaged f at) is = cc
 
 -- what an opening answers of files
 
@@ -72,11 +55,3 @@ stand_whole s fs (host.Damaged f at) stands h = ⊎_elim
     (λ (is : host.Damaged f at ≡ host.Disk). absurd cc)
     (λ (is : fs ≡ DamagedFiles f at). absurd (not_damaged s fs f at stands is))
     h
-
--- counts
-
-pub rose_before : (a b c : ℕ) → a ≤ b → Rose b c → Rose a c
-rose_before a b c late rose = omega (arith, late, rose)
-
-pub rose_after : (a b c : ℕ) → Rose a b → b ≤ c → Rose a c
-rose_after a b c rose late = omega (arith, late, rose)

@@ -20,7 +20,8 @@ stands_seen s a b same stands = subst (Stands s) (sym (same_files a b same)) sta
 
 -- what was before is the images of the last disk at the first moment
 pub opens : (before : ℕ → List ℕ → Type 0) (s : State) (from mid : ℕ) (was so is : Images)
-    → ((f : ℕ) (c : List ℕ) → before f c → was from f c) → WholeBetween from mid was so (BeforeOr before (StandsFor 0 s))
+    → ((f : ℕ) (c : List ℕ) → before f c → was from f c)
+    → WholeBetween from mid was so (BeforeOr before (StandsFor 0 s))
     → Keeps mid so is → InOpening is (is from) s from mid
 opens before s from mid was so is old run keeps = record {
   later = run.later;
@@ -40,8 +41,8 @@ pub opens_inner : (before now : ℕ) (outer_was outer_is : Images) (s : State) (
     → Keeps mid so is → InOpening is (is from) s from mid
 opens_inner before now outer_was outer_is s from mid was so is mirrors old run keeps =
     opens (outer_was before) s from mid was so is old
-    (holds_within (BeforeOr (outer_was before) (StandsFor 0 s)) before now outer_was outer_is from mid was so mirrors run)
-    keeps
+    (holds_within (BeforeOr (outer_was before) (StandsFor 0 s)) before now outer_was outer_is from mid was so mirrors
+    run) keeps
 
 -- what is so whatever the result
 

@@ -73,7 +73,8 @@ module _ {T : Type 0} (was is : Images) (w v : World) (l : ℕ × Line) (told no
       same e f is = cc
 
 -- or of one whose call failed
-pub fails : (T : Type 0) (was is : Images) (w v : World) (l : ℕ × Line) (told : Option (List ℕ)) (from till : ℕ) (e : Halt)
+pub fails : (T : Type 0) (was is : Images) (w v : World) (l : ℕ × Line) (told : Option (List ℕ)) (from till : ℕ)
+    (e : Halt)
     → (IsDone {T = T} (Err e) → ⊥) → WholeBetween from till was is (TriesIn w l)
     → Plays {T = T} was is w v l told told from till (Err e)
 fails T was is w v l told from till e not_done run = record {
@@ -95,7 +96,8 @@ module _ (was is : Images) (w : World) (ls : List (ℕ × Line)) (first told now
   along_line : {T : Type 0} (r : Result T Halt) (ran : Ran was w ls first told from mid v (l ∷ left))
       → Plays was is (after_lines w ran.done) u l told now mid till r → Along is w (ran.done ++ l ∷ []) from till
   along_line r ran plays =
-      along_more is w ran.done l from mid till (along_kept was is w ran.done from mid plays.keeps ran.along) plays.in_line
+      along_more is w ran.done l from mid till (along_kept was is w ran.done from mid plays.keeps ran.along)
+      plays.in_line
 
   abbrev PlaysBehind : {T : Type 0} → Result T Halt → Ran was w ls first told from mid v (l ∷ left) → Type 0
   PlaysBehind r ran = Plays was is (after_lines w ran.done) u l told now mid till r

@@ -5,7 +5,7 @@ use Rattle.std.proofs.lemmas.List.{drop_all, drop_more}
 use Rattle.room_disk.specs.Model.{Images}
 use Rattle.room_model.specs.Lines as model
 use Rattle.room_model.specs.World.{World}
-use Rattle.room_moves.specs.Reading.{Reads, AllRead}
+use Rattle.room_moves.specs.Reading.{AllRead}
 use Rattle.room_script.specs.Forms.{AreScheduled, lines_of}
 use Rattle.room_script.specs.Told.{line_of}
 use Rattle.room_script.specs.declared.lines.Line.{Line}
@@ -27,8 +27,9 @@ module _ (e : ℕ × Line) (left rest : List (ℕ × Line)) (is : left ≡ e ∷
   lines_left = ap lines_of is ∙ first.lines_are
 
   -- one line more was done
-  pub ran_next : {T : Type 0} (was so : Images) (w : World) (ls : List (ℕ × model.Line)) (start told now : Option (List ℕ))
-      (from mid till : ℕ) (v u : World) (x : T) → Ran was w ls start told from mid v (lines_of left)
+  pub ran_next : {T : Type 0} (was so : Images) (w : World) (ls : List (ℕ × model.Line))
+      (start told now : Option (List ℕ)) (from mid till : ℕ) (v u : World) (x : T)
+      → Ran was w ls start told from mid v (lines_of left)
       → ((l : model.Line) → line_of e.1 ≡ Some l → Plays was so v u (e.0, l) told now mid till (Ok x))
       → Ran so w ls start now from till u (lines_of rest)
   ran_next was so w ls start told now from mid till v u x ran plays =
@@ -47,16 +48,7 @@ module _ (e : ℕ × Line) (left rest : List (ℕ × Line)) (is : left ≡ e ∷
       (subst (λ (ms : List (ℕ × model.Line)). Ran was w ls start told from mid v ms) lines_left ran)
       (plays first.line first.is)
 
-  -- what is sent in it, and in those behind it, is read as it was meant
-
-  pub reads_first : (v : World) (l : model.Line) → line_of e.1 ≡ Some l → AllRead v (lines_of left) → Reads v e.0 l
-  reads_first v l at read =
-      let both = subst (λ (ms : List (ℕ × model.Line)). AllRead v ms) lines_left read in
-      subst (λ (m : model.Line). Reads v e.0 m) (same first.line l (sym first.is ∙ at)) both.0
-    where
-      same : (a b : model.Line) → Some a ≡ Some b → a ≡ b
-      same a b is = cc
-
+  -- what is sent behind it is read as it was meant
   pub reads_next : {T : Type 0} (was so : Images) (told now : Option (List ℕ)) (mid till : ℕ) (v u : World) (x : T)
       → AllRead v (lines_of left)
       → ((l : model.Line) → line_of e.1 ≡ Some l → Plays was so v u (e.0, l) told now mid till (Ok x))
@@ -67,7 +59,8 @@ module _ (e : ℕ × Line) (left rest : List (ℕ × Line)) (is : left ≡ e ∷
 
 -- nothing is left
 pub none_left : (images : Images) (w : World) (ls : List (ℕ × model.Line)) (told now : Option (List ℕ)) (from till : ℕ)
-    (v : World) (es : List (ℕ × Line)) (i : ℕ) → length es ≤ i → Ran images w ls told now from till v (lines_of (drop i es))
+    (v : World) (es : List (ℕ × Line)) (i : ℕ) → length es ≤ i
+    → Ran images w ls told now from till v (lines_of (drop i es))
     → Ran images w ls told now from till v []
 none_left images w ls told now from till v es i past ran =
     subst (λ (xs : List (ℕ × Line)). Ran images w ls told now from till v (lines_of xs)) (drop_all i es past) ran

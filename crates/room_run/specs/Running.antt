@@ -1,5 +1,5 @@
--- A run over the lines of a schedule: what it writes, where it leaves the world, and what a stop leaves of the disk at each
--- moment. Images are those of the disk that was handed in.
+-- A run over the lines of a schedule: what it writes, where it leaves the world, and what a stop leaves of the disk at
+-- each moment. Images are those of the disk that was handed in.
 use Rattle.std.specs.Prelude.{◌≡◌, ◌≤◌, ◌⊎◌, ℕ, List, [], ◌∷◌, ◌++◌, take, Option, Result, Ok, Err}
 use Rattle.std.specs.Io.KnownBytes.{Appends}
 use Rattle.room_disk.specs.Model.{Reads, Images, Keeps}
@@ -71,8 +71,9 @@ pub record Ran (images : Images) (w : World) (ls : List (ℕ × Line)) (held now
   pub along : Along images w done from till
   pub ends : At images till (StandsFor 0 (state_in v.host))
 
--- The run ended within a line: those before it were run and told, and of what it writes a first part was written, none where
--- the disk failed. Where the sink alone failed the line was done, and each image at the end stands for the state after it.
+-- The run ended within a line: those before it were run and told, and of what it writes a first part was written, none
+-- where the disk failed. Where the sink alone failed the line was done, and each image at the end stands for the state
+-- after it.
 pub record Halted (fault : Halt) (images : Images) (w : World) (ls : List (ℕ × Line)) (held now : Option (List ℕ))
     (from till : ℕ) : Type 0 where
   pub done : List (ℕ × Line)

@@ -22,8 +22,8 @@ use room_tree::Tree;
 use room_world::World;
 use std::alloc::Global;
 
-/// Does the lines, each with its number, one after the other, and writes what each writes before the next is begun. It ends
-/// with the first line whose call fails.
+/// Does the lines, each with its number, one after the other, and writes what each writes before the next is begun. It
+/// ends with the first line whose call fails.
 pub fn run<T: Tree, D: Stopping, K: Sink>(
     alloc: Global,
     world: &mut World<T, D>,
@@ -54,8 +54,8 @@ pub fn run<T: Tree, D: Stopping, K: Sink>(
     play_all(alloc, world, disk, sink, lines)
 }
 
-/// A run in the room of the disk's first two files: its server recovers them, and then the lines are done. The disk holds
-/// nothing back and isn't armed.
+/// A run in the room of the disk's first two files: its server recovers them, and then the lines are done. The disk
+/// holds nothing back and isn't armed.
 pub fn replay<T: Tree, D: Stopping, K: Sink>(
     alloc: Global,
     disk: &mut D,
@@ -66,16 +66,19 @@ pub fn replay<T: Tree, D: Stopping, K: Sink>(
     requires scheduled { AreScheduled lines.now }
     requires lines { AreLines (lines_of lines.now) }
 
-    // Where the files stand for a state, what is written is the model's report from there, and each line has its moments.
+    // Where the files stand for a state, what is written is the model's report from there, and each line has its
+    // moments.
     ensures replays { D.tells ≡ true → D.stops ≡ true → (s : State) → Stands s (room_files (D.inner_seen disk.old))
         → Replays result (D.inner_images disk.new) s (lines_of lines.now) (K.written sink.old) (K.written sink.new)
         (D.inner_moment disk.old) (D.inner_moment disk.new) }
-    // Where it is done they stood for one. Where a file is found damaged, the opening found it so, and nothing was written.
+    // Where it is done they stood for one. Where a file is found damaged, the opening found it so, and nothing was
+    // written.
     ensures stood { D.tells ≡ true
         → OnOk result ((s : State) × Stands s (room_files (D.inner_seen disk.old))) }
     ensures files { D.tells ≡ true → IfErr result (λ e. ((s : State) × Stands s (room_files (D.inner_seen disk.old)))
         ⊎ (IsOfFiles (room_files (D.inner_seen disk.old)) e × Appends (K.written sink.old) (K.written sink.new) [])) }
-    ensures whole { D.tells ≡ true → (s : State) → Stands s (room_files (D.inner_seen disk.old)) → IfErr result IsWhole }
+    ensures whole { D.tells ≡ true → (s : State) → Stands s (room_files (D.inner_seen disk.old))
+        → IfErr result IsWhole }
     ensures causes { HasCauses D.faults D.inner_faults K.faults disk.old disk.new sink.old sink.new result }
 {
     let mut world: World<T, D> = match World::new(alloc, disk) {

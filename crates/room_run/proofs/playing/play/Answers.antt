@@ -41,5 +41,5 @@ returns-in-Err-clause-plays g c told can l is =
     (g.met.D.Stopping.mirrors old new told c.step.ensures.went) (c.step.ensures.images told can l is) in
     fails (Unit {0}) (s.inner_images old) (s.inner_images new) w v (c.args.number, l) (k.written c.args.sink.now)
     (s.inner_moment old) (s.inner_moment new) c.halt_of.result
-    (λ done. not_done (Unit {0}) c.in-Err.fault (subst (λ (e : Halt). IsDone {T = Unit {0}} (Err e)) c.halt_of.ensures done))
-    run
+    (λ done. not_done (Unit {0}) c.in-Err.fault
+    (subst (λ (e : Halt). IsDone {T = Unit {0}} (Err e)) c.halt_of.ensures done)) run

@@ -102,3 +102,8 @@ returns-clause-runs g c told can =
     (lines_of c.args.lines.now) (k.written c.args.sink.now) (k.written l.sink) (s.inner_moment c.args.disk.now)
     (s.inner_moment l.disk) (world_on d.seen s.armed s.way l.world l.disk) c.args.lines.now l.number-index
     c.loop-number-test.false (l.invariant.ran told can)
+
+pub returns-in_err-play-clause-went : goal.returns-in_err-play-clause-went
+returns-in_err-play-clause-went g c =
+    g.met.D.Stopping.went_then c.args.disk.now c.loop-number.disk c.play.new.disk c.loop-number.invariant.went
+    c.play.ensures.went

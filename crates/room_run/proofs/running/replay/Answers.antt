@@ -48,7 +48,8 @@ returns-in-Err-clause-files g c told =
     let inner = g.D.Stopping.inner_seen old in
     let f = c.in-Err.fault in
     let fault : (f ≡ host.Disk) ⊎ IsFault (room_files inner) f =
-    subst (λ (fs : Files). (f ≡ host.Disk) ⊎ IsFault fs f) (same_files seen inner bare.reads) (c.in-Err.ensures.fault told) in
+    subst (λ (fs : Files). (f ≡ host.Disk) ⊎ IsFault fs f) (same_files seen inner bare.reads)
+    (c.in-Err.ensures.fault told) in
     inr (
       subst (IsOfFiles (room_files inner)) (sym c.halt_of.ensures) (of_files (room_files inner) f fault),
       appends_none (g.K.Sink.written c.args.sink.now),
@@ -62,7 +63,8 @@ returns-in-Err-clause-whole g c told state stands =
     let inner = g.D.Stopping.inner_seen old in
     let f = c.in-Err.fault in
     let fault : (f ≡ host.Disk) ⊎ IsFault (room_files inner) f =
-    subst (λ (fs : Files). (f ≡ host.Disk) ⊎ IsFault fs f) (same_files seen inner bare.reads) (c.in-Err.ensures.fault told) in
+    subst (λ (fs : Files). (f ≡ host.Disk) ⊎ IsFault fs f) (same_files seen inner bare.reads)
+    (c.in-Err.ensures.fault told) in
     subst IsWhole (sym c.halt_of.ensures) (stand_whole state (room_files inner) f stands fault)
 
 pub play_all-requires-clause-runnable : goal.play_all-requires-clause-runnable
