@@ -76,6 +76,8 @@ class Peer:
         self.node, self.op = 1, 1
         self.done, self.undone = [], []
         self.gone = []
+        # nodes that it made: not yet sent, and under way
+        self.unsent, self.sent = set(), set()
 
 
 class Writer:
@@ -140,6 +142,7 @@ class Writer:
             return None
         node = Node("%d:%d" % (peer.actor or 1, peer.node), kind, parent)
         peer.node += 1
+        peer.unsent.add(node.name)
         if kind == "list":
             node.items = [self.made(peer, node, item, False) for item in inner]
         elif inner is not None:
@@ -227,6 +230,21 @@ class Writer:
             return max(1, self.connections - self.rng.randrange(CLIENTS))
         return self.rng.choice([0, 1, self.connections + 1, 2 ** 64 - 1])
 
+    def reached(self, peer):
+        """The nodes that a client is thought to show."""
+        hidden = set()
+        for other in self.clients.values():
+            if other is not peer:
+                hidden |= other.unsent | other.sent
+        return [node for node in self.guess.nodes() if node.name not in hidden]
+
+    def flush(self, c):
+        self.put("flush %d" % c)
+        peer = self.clients[c]
+        if peer.live:
+            peer.sent |= peer.unsent
+            peer.unsent = set()
+
     def node(self, peer, kinds):
         """Mostly one of these kinds that is there."""
         if self.chance(0.04):
@@ -234,7 +252,7 @@ class Writer:
                         "list", None)
         if peer.gone and self.chance(0.05):
             return self.rng.choice(peer.gone)
-        nodes = self.guess.nodes()
+        nodes = self.reached(peer)
         fitting = [node for node in nodes if node.kind in kinds]
         return self.rng.choice(fitting if fitting and not self.chance(0.03) else nodes)
 
@@ -255,6 +273,9 @@ class Writer:
         peer = self.clients[c]
         acts = [(self.set, 5), (self.update, 4), (self.delete, 2), (self.push, 5), (self.insert, 4), (self.replace, 2),
                 (self.move, 4), (self.take, 2), (self.empty, 0.4)]
+        if not self.chance(0.05):
+            kinds = {node.kind for node in self.reached(peer)}
+            acts = acts[:3] if "list" not in kinds else acts
         act = self.rng.choices([act for act, _ in acts], [weight for _, weight in acts])[0]
         self.put("edit %d %s" % (c, act(peer)))
 
@@ -372,6 +393,9 @@ class Writer:
         for peer in sorted(waiting, key=lambda peer: peer.waiting):
             self.joined(peer)
             peer.loaded = peer.loaded or count > 20
+        if count > 20:
+            for peer in self.clients.values():
+                peer.sent = set()
 
     def up(self):
         k = self.connection()
@@ -384,7 +408,7 @@ class Writer:
         """Some frames go up or down."""
         pick = self.rng.randrange(10)
         if pick < 3:
-            self.put("flush %d" % self.client())
+            self.flush(self.client())
         elif pick < 5:
             self.drain(self.rng.choice([1, 2, 3, 5]))
         elif pick < 7:
@@ -396,7 +420,7 @@ class Writer:
         """All clients send, all frames arrive."""
         for c in self.clients:
             if self.chance(0.8):
-                self.put("flush %d" % c)
+                self.flush(c)
         self.drain()
         for c, peer in self.clients.items():
             if peer.actor is not None and not peer.live and self.running and self.chance(0.5):
@@ -450,7 +474,7 @@ class Writer:
             else:
                 c = self.client()
                 self.edit(c)
-                self.put("flush %d" % c)
+                self.flush(c)
                 self.drain()
         if self.chance(0.7):
             self.put("stop")
