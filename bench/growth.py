@@ -2,10 +2,10 @@
 
     python3 bench/growth.py PROGRAM [LINES..]
 
-PROGRAM is one word of the shell. It runs `gen 1 10000`, then replays of LINES lines (10000, 30000 and 100000 unless said
-otherwise) in which three clients edit, flush and drain in turn. Time is to grow in proportion: it says seconds for
-1,000 lines beside the least input's. Peak memory is to stay within 20 times the input, that of the empty process counted
-too (how much is above it stands beside): status 1 where it does not, or where a run fails.
+PROGRAM is one word of the shell. It runs `gen 1 10000`, then replays of LINES lines (10000, 30000 and 100000 unless
+said otherwise) in which three clients edit, flush and drain in turn. Time is to grow in proportion: it says seconds for
+1,000 lines beside the least input's. Peak memory is to stay within 20 times the input, that of the empty process
+counted too (how much is above it stands beside): status 1 where it does not, or where a run fails.
 """
 import os
 import shlex

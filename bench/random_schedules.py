@@ -98,8 +98,8 @@ class Comparison:
         for name, data in (("schedule", text), ("program", got[1]), ("other", expected[1])):
             with open(os.path.join(self.options.into, "%d.%s" % (seed, name)), "wb") as file:
                 file.write(data)
-        print("seed %d: status %s, expected %s; %s" % (seed, got[0], expected[0], first_difference(got[1], expected[1])),
-              flush=True)
+        where = first_difference(got[1], expected[1])
+        print("seed %d: status %s, expected %s; %s" % (seed, got[0], expected[0], where), flush=True)
 
 
 def first_difference(got, expected):

@@ -18,7 +18,8 @@ KEYS = ["a", "b", "c", "d", "title", "x", "y", "~", "!"]
 NUMBERS = [0, 1, -1, 7, 10, 1000, 2 ** 31, 2 ** 32, 2 ** 53 - 1, 1 - 2 ** 53]
 HOWS = ["old", "new", "torn"]
 BROKEN = [
-    "", " ", "{", "[", "[]x", "nul", "[1,]", "{\"a\":1,}", "\"\\ud800\"", "[1.5]", "[9007199254740992]", "[-0]", "[1e3]",
+    "", " ", "{", "[", "[]x", "nul", "[1,]", "{\"a\":1,}", "\"\\ud800\"", "[1.5]", "[9007199254740992]", "[-0]",
+    "[1e3]",
     "{}", "3", "null", "\"ping\"", "[3]", "[{}]", "[{\"type\":\"1\"}]", "[{\"type\":2}]", "[{\"type\":1}]", "ping ",
     "[{\"type\":1,\"room\":\"other\"}]", "[{\"type\":1,\"room\":\"room\",\"resume\":{}}]",
     "[{\"type\":1,\"room\":\"room\",\"resume\":{\"actor\":0,\"key\":\"0000000000000001\"}}]",
@@ -196,7 +197,8 @@ class Writer:
         for node in before:
             if node not in items:
                 self.forget(peer, node)
-        self.changed(peer, lambda: setattr(parent, "items", list(before)), lambda: setattr(parent, "items", list(items)))
+        self.changed(peer, lambda: setattr(parent, "items", list(before)),
+                     lambda: setattr(parent, "items", list(items)))
 
     def drop_member(self, peer, parent, name):
         before, field = parent.members.get(name), name in parent.fields
@@ -554,7 +556,8 @@ class Writer:
             messages = [{"type": 201, "ops": [self.operation(peer) for _ in range(self.rng.choice([0, 1, 1, 1, 2, 4]))]}
                         for _ in range(self.rng.choice([1, 1, 1, 2]))]
             if self.chance(0.08) and messages[0]["ops"]:
-                messages[0]["ops"][0]["opId"] = self.rng.choice(["1:1", "9:9", "%d:%d" % (peer.actor or 1, peer.op + 3)])
+                late = "%d:%d" % (peer.actor or 1, peer.op + 3)
+                messages[0]["ops"][0]["opId"] = self.rng.choice(["1:1", "9:9", late])
             self.raw(peer, text_of(messages))
         elif pick < 7:
             message = {"type": 100, "data": self.record()}
