@@ -105,22 +105,21 @@ pub(crate) fn shown(alloc: Global, disk: &mut CaseDisk) -> Result<String, Broken
     simply(alloc, disk, "show f", &[])?.in_line(alloc)
 }
 
+/// A word, or a dash where there is none.
+fn or_dash(alloc: Global, word: &Option<Text>) -> Result<String, Broken> {
+    match word {
+        Some(word) => Ok(format!(in alloc; "{}", word.as_str())?),
+        None => Ok(format!(in alloc; "-")?),
+    }
+}
+
 /// What words want of the outside.
 pub(crate) fn wanted(alloc: Global, words: &str) -> Result<String, Broken> {
     let words = words_of(alloc, words)?;
     let wants = wants(alloc, words.as_slice())?;
-    let folder = match &wants.folder {
-        Some(folder) => folder.as_str(),
-        None => "-",
-    };
-    let address = match &wants.address {
-        Some(address) => address.as_str(),
-        None => "-",
-    };
-    let table = match &wants.table {
-        Some(table) => table.as_str(),
-        None => "-",
-    };
+    let folder = or_dash(alloc, &wants.folder)?;
+    let address = or_dash(alloc, &wants.address)?;
+    let table = or_dash(alloc, &wants.table)?;
     let serves = wants.serves;
     Ok(format!(in alloc; "folder {folder}, address {address}, serves {serves}, table {table}")?)
 }

@@ -42,12 +42,16 @@ impl Block {
         })
     }
 
-    /// One more line of its input. Behind `hex` stand bytes as digits, behind `many` a text with repeats.
+    /// One more line of its input. Behind `hex` stand bytes as digits, behind `many` and `part` a text with repeats; behind
+    /// `hex` and `part` no line ends.
     pub(crate) fn add(&mut self, alloc: Global, line: &str) -> Result<(), Broken> {
         if let Some(digits) = line.strip_prefix("hex ") {
             let piece = bytes(alloc, digits)?;
             self.bytes.extend_from_slice(piece.as_slice())?;
             return Ok(());
+        }
+        if let Some(text) = line.strip_prefix("part ") {
+            return push_expanded(&mut self.bytes, text);
         }
         match line.strip_prefix("many ") {
             Some(text) => push_expanded(&mut self.bytes, text)?,
