@@ -72,13 +72,7 @@ fn one(
 }
 
 /// What comes of it for each number from 1 to a last one, a line each.
-fn each(
-    alloc: Global,
-    part: Part,
-    last: u64,
-    words: &str,
-    input: &[u8],
-) -> Result<String, Broken> {
+fn each(alloc: Global, part: Part, last: u64, words: &str, input: &[u8]) -> Result<String, Broken> {
     let mut runs = Runs::new(alloc);
     for number in 1..=last {
         let text = one(alloc, part, number, words, input)?;

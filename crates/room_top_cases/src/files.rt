@@ -75,11 +75,7 @@ pub(crate) fn lengths(alloc: Global, disk: &mut CaseDisk) -> Result<String, Brok
 }
 
 /// What is recovered of the first file with each of its bytes replaced by another.
-pub(crate) fn changed(
-    alloc: Global,
-    disk: &mut CaseDisk,
-    words: &str,
-) -> Result<String, Broken> {
+pub(crate) fn changed(alloc: Global, disk: &mut CaseDisk, words: &str) -> Result<String, Broken> {
     let byte = byte(words)?;
     let mut whole = content(alloc, disk, 0)?;
     let mut runs = Runs::new(alloc);
