@@ -6,3 +6,4 @@ pub mod Serves
 pub mod Gathering
 pub mod Parts
 pub mod Trying
+pub mod Turning

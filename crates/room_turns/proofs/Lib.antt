@@ -1,0 +1,3 @@
+mod Happening
+mod Gathered
+mod Tried
