@@ -27,7 +27,7 @@ by_true : (b : Bool) (x y : Serving) → b ≡ true → cond b x y ≡ x
 by_true true x y e = refl
 by_true false x y e = cc
 
-left_some : (n left : ℕ) → (nat_le 64 n || left == 0) ≡ false → 0 < left
+pub left_some : (n left : ℕ) → (nat_le 64 n || left == 0) ≡ false → 0 < left
 left_some n left e = grind (arith, nat_tests)
 
 asks : (left : ℕ) → 0 < left → nat_lt 0 left ≡ true

@@ -1,6 +1,7 @@
 -- What happens on a hub, part by part.
 use Rattle.std.proofs.Common.{◌≡◌, ◌≤◌, ℕ, Bool, true, false, List, [], ◌∷◌, ◌++◌, length, refl, sym, ap, ◌∙◌, subst}
 use Rattle.std.proofs.Common.{append_assoc, append-nil}
+use Rattle.std.specs.Prelude.{Result, Ok, Err, OnOk, OnErr}
 use Rattle.room_hub.specs.declared.hub.Happening.{Happening}
 use Rattle.room_log.specs.Log.{Entry}
 use Rattle.room_serving.specs.Serving.{Serving, Serves, served, after}
@@ -81,3 +82,13 @@ leads_begins m n was is more grows owed a = record {
   groups = ap (λ (x : Serving). x.groups) a.leads ∙ grows;
   owed = λ most. subst (λ (x : Serving). x.owed ≤ length m.groups) (sym a.leads) (owed most);
 }
+
+-- what holds anyway
+
+pub on_ok : {T E : Type 0} (r : Result T E) (P : Type 0) → P → OnOk r P
+on_ok (Ok x) P h = h
+on_ok (Err e) P h = tt
+
+pub on_err : {T E : Type 0} (r : Result T E) (P : Type 0) → P → OnErr r P
+on_err (Ok x) P h = tt
+on_err (Err e) P h = h

@@ -1,3 +1,10 @@
 mod Happening
 mod Gathered
 mod Tried
+mod Noting
+mod Turned
+mod Causes
+mod Standing
+mod Whole
+mod Compacted
+mod Calls

@@ -109,11 +109,11 @@ module _ (v : Server) (left : ℕ) (ending : Ending) (groups : List (List Entry)
   last_one (p ∷ os) o d e = cc
 
   -- one more, where its deed is told in the model's words
-  next_at : (todo os : List (ℕ × Outbound)) (o : ℕ × Outbound) (was so is : List Happening) (outs : List Out)
-      (lost : List ℕ) (b : Bool) (t : Trying todo was so (written o ∷ outs) lost) → t.rest ≡ o ∷ os
+  next_at : (todo os : List (ℕ × Outbound)) (o : ℕ × Outbound) (was so is : List Happening) (all outs : List Out)
+      (lost : List ℕ) (b : Bool) (t : Trying todo was so all lost) → t.rest ≡ o ∷ os
       → map written os ≡ outs → is ≡ so ++ Did (deed_on o.0 o.1 b) ∷ []
       → Trying todo was is outs (cond b (with_lost lost o.0) lost)
-  next_at todo os o was so is outs lost b t rest_is left_is told =
+  next_at todo os o was so is all outs lost b t rest_is left_is told =
       let d = Did (deed_on o.0 o.1 b) in
       let so_is : served (start todo) t.happened ≡ at t.tried (o ∷ os) lost =
       t.leads ∙ ap (λ (l : List (ℕ × Outbound)). at t.tried l lost) rest_is in
@@ -140,12 +140,11 @@ module _ (v : Server) (left : ℕ) (ending : Ending) (groups : List (List Entry)
   try_next todo was so is out outs lost b t told =
       let f = map_first t.rest out outs t.rest_is in
       let o = f.0 in
-      let os = f.1.0 in
-      let same = sym f.1.1.1.0 in
+      let os = f.1 in
+      let same = sym f.3 in
       subst (λ (ks : List ℕ). Trying todo was is outs ks)
       (ap (λ (k : ℕ). cond b (with_lost lost k) lost) (sym (ap conn_of same ∙ conn_is o)))
-      (next_at todo os o was so is outs lost b
-      (subst (λ (x : Out). Trying todo was so (x ∷ outs) lost) same t) f.1.1.0 f.1.1.1.1
+      (next_at todo os o was so is (out ∷ outs) outs lost b t f.2 f.4
       (told ∙ ap (λ (x : Deed). so ++ Did x ∷ []) (ap (λ (x : Out). deed_of x b) same ∙ deed_is o b)))
 
   -- all of them
@@ -213,3 +212,9 @@ module _ (v : Server) (left : ℕ) (ending : Ending) (groups : List (List Entry)
       begins_at todo was is (out ∷ outs) lost (subst (λ (z : List Happening). Trying todo was z (out ∷ outs) lost) (sym same) t)
   try_begins todo was so is out outs lost t (inr (b, told)) =
       begins_at todo was is outs (cond b (with_lost lost (conn_of out)) lost) (try_next todo was so is out outs lost b t told)
+
+  pub try_done : (todo : List (ℕ × Outbound)) (was so is : List Happening) (out : Out) (outs : List Out)
+      (lost now : List ℕ) → Trying todo was so (out ∷ outs) lost → Tries out so is lost now → Trying todo was is outs now
+  try_done todo was so is out outs lost now t e =
+      subst (λ (ks : List ℕ). Trying todo was is outs ks) (sym e.noted)
+      (try_next todo was so is out outs lost e.lost t e.told)

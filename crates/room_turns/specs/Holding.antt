@@ -1,11 +1,11 @@
 -- What the disk of a served room holds: at each moment the turns of a first part, each whole; how many calls that took; and
 -- the snapshot.
-use Rattle.std.specs.Prelude.{◌≡◌, ◌⊎◌, ◌≤◌, ℕ, ◌+◌, if◌then◌else◌, List, [], ◌∷◌, length, take, Some, None}
-use Rattle.room_disk.specs.Model.{Reads}
+use Rattle.std.specs.Prelude.{◌≡◌, ◌≤◌, ℕ, ◌+◌, if◌then◌else◌, List, [], ◌∷◌, length, take, Some, None}
+use Rattle.room_disk.specs.Model.{Reads, Images}
 use Rattle.room_log.specs.Log.{State, Entry, state_after, updates_of}
 use Rattle.room_bytes.specs.declared.entries.Format.TheVariants.{Two}
 use Rattle.room_snapshot.specs.Reading.{snapshot_of}
-use Rattle.room_journal.specs.Files.{Holds, reading, last_generation}
+use Rattle.room_journal.specs.Files.{Held, Holds, reading, last_generation}
 use Rattle.room_replay.specs.Files.{StandsFor, held_of}
 use Rattle.room_serving.specs.Turns.{has_round}
 
@@ -29,7 +29,7 @@ abbrev pub calls_in : State → List (List Entry) → ℕ
 calls_in s [] = 0
 calls_in s (es ∷ turns) = calls_of s es + calls_in (state_after s es) turns
 
--- the snapshot of the file that counts has at least n updates, or no file of a further generation could be made
+-- the file that counts has a snapshot of at least n updates
 pub record IsCompacted (seen : Reads) (n : ℕ) : Type 0 where
   pub file : ℕ
   pub generation : ℕ
@@ -38,4 +38,21 @@ pub record IsCompacted (seen : Reads) (n : ℕ) : Type 0 where
   pub counts : reading 0 (seen 0) (seen 1) ≡ Holds file Two generation (held_of snapshot bodies None)
   pub state : State
   pub reads : snapshot_of Two snapshot ≡ Some state
-  pub enough : (generation ≡ last_generation) ⊎ (n ≤ state.count)
+  pub enough : n ≤ state.count
+
+-- the file that counts is of the last generation, behind which no compaction makes another
+pub record IsLast (seen : Reads) : Type 0 where
+  pub file : ℕ
+  pub generation : ℕ
+  pub held : Held
+  pub counts : reading 0 (seen 0) (seen 1) ≡ Holds file Two generation held
+  pub last : last_generation ≤ generation
+
+-- it was so at a moment
+pub record WasLast (images : Images) (from till : ℕ) : Type 0 where
+  pub moment : ℕ
+  pub since : from ≤ moment
+  pub until : moment ≤ till
+  pub image : Reads
+  pub left : (f : ℕ) → images moment f (image f)
+  pub last : IsLast image

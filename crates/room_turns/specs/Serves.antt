@@ -14,18 +14,20 @@ use Rattle.room_store.specs.Consistent.{BeforeOr, IsStill, Since}
 use Rattle.room_turns.specs.Breaking.{is_midway}
 use Rattle.room_turns.specs.Ending.{ending_in}
 use Rattle.room_turns.specs.Faults.{IsOfFiles}
-use Rattle.room_turns.specs.Holding.{StandsWithin, IsCompacted, calls_in}
+use Rattle.room_turns.specs.Holding.{StandsWithin, IsCompacted, WasLast, calls_in}
 use Rattle.room_turns.specs.declared.ended.Ended.{Ended}
 use Rattle.room_turns.specs.declared.fault.ServeFault.{ServeFault}
 use Rattle.room_turns.specs.declared.fault.ServeFault.TheVariants.{Disk}
 
 -- Nothing is left to be done, and it ended so. By the moment `till` the disk made just the calls of the turns since the
--- moment `from`; each round number of an update is in a snapshot.
-pub record IsDone (s : State) (n : Serving) (e : Ending) (seen : Reads) (from till : ℕ) : Type 0 where
+-- moment `from`. Each round number of an update is in the snapshot, but where there was no further generation.
+pub record IsDone (s : State) (n : Serving) (e : Ending) (seen : Reads) (images : Images) (from till : ℕ)
+    : Type 0 where
   pub over : is_over n ≡ true
   pub ending : n.ending ≡ e
   pub calls : till ≡ from + calls_in s n.groups
-  pub compacted : (k : ℕ) → s.count < k → k ≤ n.server.state.count → is_round k ≡ true → IsCompacted seen k
+  pub compacted : (k : ℕ) → s.count < k → k ≤ n.server.state.count → is_round k ≡ true
+      → IsCompacted seen k ⊎ WasLast images from till
 
 -- From `m`, a room over the state s, what happened on the hub is what serving asks for. The images are those of the disk
 -- from the moment `since` on, and `from` is the moment before the first turn.
@@ -43,7 +45,7 @@ pub record Served (s : State) (m : Serving) (was is : List Happening) (seen : Re
   pub calls : till ≤ from + calls_in s (served m happened).groups
   -- where the disk failed, all of a turn was tried or nothing
   pub unbroken : IsErrOf result Disk → is_midway m false happened ≡ false
-  pub done : (e : Ending) → ending_in result ≡ Some e → IsDone s (served m happened) e seen from till
+  pub done : (e : Ending) → ending_in result ≡ Some e → IsDone s (served m happened) e seen images from till
 
 -- Within the opening an image is one from before it, or stands for the state that the files stand for; since its two
 -- syncs the images stand for that state with a first part of the turns.

@@ -1,5 +1,6 @@
 -- What is tried, as it goes out.
-use Rattle.std.specs.Prelude.{◌≡◌, ◌⊎◌, ℕ, ◌+◌, nat_le, Bool, if◌then◌else◌, List, [], ◌∷◌, ◌++◌, length}
+use Rattle.std.specs.Prelude.{◌≡◌, ◌⊎◌, ℕ, suc, ◌==◌, nat_le, Bool, false, if◌then◌else◌, List, [], ◌∷◌, ◌++◌, length}
+use Rattle.std.specs.Prelude.{Option, Some, None}
 use Rattle.room_hub.specs.declared.hub.Deed.{Deed}
 use Rattle.room_hub.specs.declared.hub.Deed.TheVariants.{Sent, Closed}
 use Rattle.room_hub.specs.declared.hub.Happening.{Happening}
@@ -21,7 +22,11 @@ deed_of (Close k code text) lost = Closed k code text lost
 -- how many at the front are below k
 abbrev pub number_below : List ℕ → ℕ → ℕ
 number_below [] k = 0
-number_below (j ∷ js) k = if nat_le k j then 0 else 1 + number_below js k
+number_below (j ∷ js) k = if nat_le k j then 0 else suc (number_below js k)
+
+abbrev pub is_number : Option ℕ → ℕ → Bool
+is_number None k = false
+is_number (Some j) k = j == k
 
 -- once something is tried, something of all turns so far was sent
 abbrev pub owed_after : List (ℕ × Outbound) → List (List Entry) → ℕ → ℕ

@@ -1,5 +1,5 @@
 -- A turn of the server: what it does to the disk, and what happens on the hub.
-use Rattle.std.specs.Prelude.{◌≡◌, ◌≤◌, ◌<◌, ℕ, ◌+◌, Bool, true, false, if◌then◌else◌, List, [], ◌∷◌, ◌++◌, length, None}
+use Rattle.std.specs.Prelude.{◌≡◌, ◌⊎◌, ◌≤◌, ◌<◌, ℕ, ◌+◌, Bool, true, false, if◌then◌else◌, List, [], ◌∷◌, ◌++◌, length, None}
 use Rattle.std.specs.Prelude.{Result, Ok, Err, IsErrOf, OnOk}
 use Rattle.room_disk.specs.Model.{Reads, Images, WithinWhole}
 use Rattle.room_edge.specs.Causes.{Rose}
@@ -12,7 +12,7 @@ use Rattle.room_server.specs.Hosted.{Hosted, broken_by}
 use Rattle.room_serving.specs.Serving.{Serving, Ending, group_of, served}
 use Rattle.room_serving.specs.Turns.{Turned, has_round, is_round}
 use Rattle.room_store.specs.Stored.{IsOnDisk}
-use Rattle.room_turns.specs.Holding.{StandsWithin, IsCompacted, after_turns, calls_in}
+use Rattle.room_turns.specs.Holding.{StandsWithin, IsCompacted, WasLast, after_turns, calls_in}
 use Rattle.room_turns.specs.Parts.{trying, Leads, Stops}
 use Rattle.room_turns.specs.declared.fault.ServeFault.{ServeFault}
 use Rattle.room_turns.specs.declared.fault.ServeFault.TheVariants.{Disk}
@@ -55,15 +55,15 @@ pub record Settles (v : Server) (left : ℕ) (ending : Ending) (todo : List (ℕ
   pub leads : Leads (trying v left ending todo [] groups owed) was is (trying u left ending [] [] groups now)
 
 -- a turn was done
-pub record TurnDone {D : Type 0} (seen : D → Reads) (moment : D → ℕ) (s : State) (out : Turned)
+pub record TurnDone {D : Type 0} (seen : D → Reads) (moment : D → ℕ) (images : D → Images) (s : State) (out : Turned)
     (left : ℕ) (ending : Ending) (groups : List (List Entry)) (owed : ℕ) (was is : List Happening) (v u : Server)
     (old new : D) : Type 0 where
   pub settles : Settles out.server left ending out.outs (groups ++ group_of out.entries) owed was is u
   pub state : after_turns s (groups ++ group_of out.entries) ≡ u.state
   pub calls : (from : ℕ) → moment old ≡ from + calls_in s groups
       → moment new ≡ from + calls_in s (groups ++ group_of out.entries)
-  pub compacted : (n : ℕ) → n ≤ u.state.count → ((n ≤ v.state.count → IsCompacted (seen old) n)) → is_round n ≡ true
-      → IsCompacted (seen new) n
+  pub compacted : (n : ℕ) → n ≤ u.state.count → is_round n ≡ true → (n ≤ v.state.count → IsCompacted (seen old) n)
+      → IsCompacted (seen new) n ⊎ WasLast (images new) (moment old) (moment new)
 
 -- a turn was begun, and not done
 pub record TurnStopped {D T : Type 0} (moment : D → ℕ) (images : D → Images) (s : State) (out : Turned) (left : ℕ)
@@ -80,7 +80,7 @@ abbrev pub TurnEnds : {D T : Type 0} → (D → Reads) → (D → ℕ) → (D �
     → (groups : List (List Entry)) → (owed : ℕ) → (was is : List Happening) → (v u : Server) → (old new : D)
     → Result T ServeFault → Type 0
 TurnEnds seen moment images s out left ending groups owed was is v u old new (Ok x) =
-    TurnDone seen moment s out left ending groups owed was is v u old new
+    TurnDone seen moment images s out left ending groups owed was is v u old new
 TurnEnds {T = T} seen moment images s out left ending groups owed was is v u old new (Err e) =
     TurnStopped {T = T} moment images s out left ending groups owed was is new (Err e)
 

@@ -1,25 +1,27 @@
 //! What goes out is tried, all of it, and what was lost is noted.
-ghost use Rattle.std.specs.Prelude.{◌≡◌, ◌≤◌, ◌++◌, ◌∷◌, List, ℕ, [], true, map, IfOk, OnOk, OnErr, if◌then◌else◌};
+ghost use Rattle.std.specs.Prelude.{◌≡◌, ◌≤◌, ◌++◌, ◌∷◌, List, ℕ, [], true, map, length, slice_get, IfOk, OnOk, OnErr, if◌then◌else◌};
 ghost use Rattle.room_hub.specs.declared.hub.Happening.TheVariants.{Did};
 ghost use Rattle.room_links.specs.Outs.{written};
 ghost use Rattle.room_log.specs.Log.{Entry};
 ghost use Rattle.room_model.specs.Server.{Outbound, Server};
 ghost use Rattle.room_serving.specs.Serving.{Ending, treat, with_lost};
 ghost use Rattle.room_turns.specs.Parts.{trying, Leads, Begins};
-ghost use Rattle.room_turns.specs.Trying.{conn_of, deed_of, number_below, owed_after, Tries, TriesOrNot};
+ghost use Rattle.room_turns.specs.Trying.{conn_of, deed_of, is_number, number_below, owed_after};
+ghost use Rattle.room_turns.specs.Trying.{Tries, TriesOrNot};
 
 use room_hub::{Hub, SendFault};
 use room_json::{NoMemory, Seq};
 use room_server::Out;
 use std::alloc::Global;
 
-/// How many of the numbers, which rise, are below one.
+/// How many numbers at the front, which rise, are below one.
 fn number_below(numbers: &[u64], conn: u64) -> usize
-    ensures { result ≡ number_below numbers.now conn }
+    ensures within { result ≤ length numbers.now }
+    ensures value { result ≡ number_below numbers.now conn }
 {
     let mut at = 0;
     for number in numbers {
-        if *number >= conn {
+        if conn <= *number {
             return at;
         }
         at += 1;
@@ -27,15 +29,23 @@ fn number_below(numbers: &[u64], conn: u64) -> usize
     at
 }
 
+/// Whether that number stands there.
+fn is_there(numbers: &Seq<u64>, at: usize, conn: u64) -> bool
+    ensures { result ≡ is_number (slice_get numbers.now at) conn }
+{
+    match numbers.get(at as u64) {
+        Some(number) => *number == conn,
+        None => false,
+    }
+}
+
 /// Puts a number among others, which rise, once.
-pub(crate) fn note(lost: &mut Seq<u64>, conn: u64) -> Result<(), NoMemory>
+fn note(lost: &mut Seq<u64>, conn: u64) -> Result<(), NoMemory>
     ensures { OnOk result (lost.new ≡ with_lost lost.old conn) }
 {
     let at = number_below(lost.as_slice(), conn);
-    if let Some(number) = lost.get(at as u64) {
-        if *number == conn {
-            return Ok(());
-        }
+    if is_there(lost, at, conn) {
+        return Ok(());
     }
     lost.insert(at, conn)
 }
@@ -92,7 +102,6 @@ pub(crate) fn try_all<H: Hub>(alloc: Global, hub: &mut H, outs: &[Out]) -> Resul
     ensures begins { H.tells ≡ true → (v : Server) (left : ℕ) (ending : Ending) (todo : List (ℕ × Outbound))
         (groups : List (List Entry)) (owed : ℕ) → map written todo ≡ outs.now → OnErr result
         (Begins (trying v left ending todo [] groups owed) (H.happened hub.old) (H.happened hub.new)) }
-    ensures none { outs.now ≡ [] → IfOk result (λ lost. lost ≡ []) }
     ensures asked { H.asked hub.new ≡ H.asked hub.old }
     ensures later { H.faults hub.old ≤ H.faults hub.new }
 {

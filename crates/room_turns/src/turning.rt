@@ -12,7 +12,7 @@ ghost use Rattle.room_serving.specs.Serving.{Ending, goners};
 ghost use Rattle.room_serving.specs.Turns.{turned, has_round, is_round};
 ghost use Rattle.room_turns.specs.Faults.{IsWhole};
 ghost use Rattle.room_turns.specs.Gathering.{events_of};
-ghost use Rattle.room_turns.specs.Holding.{IsCompacted, after_turns};
+ghost use Rattle.room_turns.specs.Holding.{IsCompacted, IsLast, after_turns};
 ghost use Rattle.room_turns.specs.Parts.{trying, Stops};
 ghost use Rattle.room_turns.specs.Turning.{IsServing, CommitsTurn, HasDiskCause, Settles, Turns, compact_calls};
 
@@ -150,7 +150,7 @@ fn compact_if_due<T: Tree, D: Disk>(
         → D.moment disk.new ≤ D.moment disk.old + compact_calls before k }
     ensures compacted { D.tells ≡ true → (k n : ℕ) → server.old.store.state.count ≡ before + k → n ≤ before + k
         → IsCompacted (D.seen disk.old) n ⊎ ((before < n) × (is_round n ≡ true))
-        → OnOk result (IsCompacted (D.seen disk.new) n) }
+        → OnOk result (IsCompacted (D.seen disk.new) n ⊎ IsLast (D.seen disk.old)) }
     ensures whole { IfErr result IsWhole }
     ensures came { D.came disk.old disk.new }
     ensures cause { HasDiskCause D.faults D.inner_faults D.stopped disk.old disk.new result }

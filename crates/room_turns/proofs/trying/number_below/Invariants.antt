@@ -4,4 +4,5 @@ use Rattle.room_turns.proofs.trying.number_below.Given as goal
 
 abbrev pub invariant-loop-number : goal.invariant-loop-number
 invariant-loop-number l =
-    l.at + number_below (drop l.number-index l.numbers) l.conn ≡ number_below l.numbers l.conn
+    (l.at ≡ l.number-index)
+    × (l.at + number_below (drop l.number-index l.numbers) l.conn ≡ number_below l.numbers l.conn)

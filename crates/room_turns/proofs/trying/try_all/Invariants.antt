@@ -14,7 +14,6 @@ invariant-loop-out g l =
           (todo : List (ℕ × Outbound)) → map written todo ≡ l.outs
           → Trying v left ending groups owed todo (h.happened l.initial.hub) (h.happened l.hub)
           (drop l.out-index l.outs) l.lost;
-      empty : l.outs ≡ [] → l.lost ≡ [];
       asked : h.asked l.hub ≡ h.asked l.initial.hub;
       later : h.faults l.initial.hub ≤ h.faults l.hub;
     }

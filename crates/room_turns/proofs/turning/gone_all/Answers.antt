@@ -1,4 +1,0 @@
-use Rattle.room_turns.proofs.turning.gone_all.Goals as goal
-
-pub returns : goal.returns
-returns = ?
