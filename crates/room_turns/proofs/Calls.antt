@@ -31,28 +31,27 @@ or_true : (a b : Bool) → (a ≡ false → b ≡ true) → (a || b) ≡ true
 or_true true b h = refl
 or_true false b h = h refl
 
-mutual
-  pub no_round : (n k : ℕ) → n / 1000 ≡ (n + k) / 1000 → has_round n k ≡ false
-  no_round n zero e = refl
-  no_round n (suc k) e = no_step n k e (is_round (n + 1)) refl
+no_step : (n k : ℕ) → n / 1000 ≡ (n + suc k) / 1000 → (b : Bool) → is_round (n + 1) ≡ b
+    → ((n + 1) / 1000 ≡ (n + 1 + k) / 1000 → has_round (n + 1) k ≡ false) → has_round n (suc k) ≡ false
+no_step n k e true is rest =
+    let more = divides_more (n + 1) k in
+    let same : (n + 1 + k) / 1000 ≡ (n + suc k) / 1000 = ap (λ (m : ℕ). m / 1000) (moved n k) in
+    absurd (omega (arith, e, more, same, round_rises n is))
+no_step n k e false is rest =
+    let same : (n + 1 + k) / 1000 ≡ (n + suc k) / 1000 = ap (λ (m : ℕ). m / 1000) (moved n k) in
+    either (is_round (n + 1)) (has_round (n + 1) k) is (rest (round_stays n is ∙ e ∙ sym same))
 
-  no_step : (n k : ℕ) → n / 1000 ≡ (n + suc k) / 1000 → (b : Bool) → is_round (n + 1) ≡ b → has_round n (suc k) ≡ false
-  no_step n k e true is =
-      let more = divides_more (n + 1) k in
-      let same : (n + 1 + k) / 1000 ≡ (n + suc k) / 1000 = ap (λ (m : ℕ). m / 1000) (moved n k) in
-      absurd (omega (arith, e, more, same, round_rises n is))
-  no_step n k e false is =
-      let same : (n + 1 + k) / 1000 ≡ (n + suc k) / 1000 = ap (λ (m : ℕ). m / 1000) (moved n k) in
-      either (is_round (n + 1)) (has_round (n + 1) k) is (no_round (n + 1) k (round_stays n is ∙ e ∙ sym same))
+pub no_round : (n k : ℕ) → n / 1000 ≡ (n + k) / 1000 → has_round n k ≡ false
+no_round n zero e = refl
+no_round n (suc k) e = no_step n k e (is_round (n + 1)) refl (no_round (n + 1) k)
 
-mutual
-  pub some_round : (n k : ℕ) → (n / 1000 ≡ (n + k) / 1000 → ⊥) → has_round n k ≡ true
-  some_round n zero e = absurd (e (ap (λ (m : ℕ). m / 1000) (none_more n)))
-  some_round n (suc k) e = or_true (is_round (n + 1)) (has_round (n + 1) k)
-      (λ is. some_round (n + 1) k (λ f. e (sym (round_stays n is) ∙ f ∙ ap (λ (m : ℕ). m / 1000) (moved n k))))
+none_more : (n : ℕ) → n ≡ n + 0
+none_more n = omega arith
 
-  none_more : (n : ℕ) → n ≡ n + 0
-  none_more n = omega arith
+pub some_round : (n k : ℕ) → (n / 1000 ≡ (n + k) / 1000 → ⊥) → has_round n k ≡ true
+some_round n zero e = absurd (e (ap (λ (m : ℕ). m / 1000) (none_more n)))
+some_round n (suc k) e = or_true (is_round (n + 1)) (has_round (n + 1) k)
+    (λ is. some_round (n + 1) k (λ f. e (sym (round_stays n is) ∙ f ∙ ap (λ (m : ℕ). m / 1000) (moved n k))))
 
 -- a multiple among the numbers
 
@@ -79,7 +78,7 @@ among n (suc k) m low high is = at (m == n + 1) refl (among (n + 1) k m)
 one_more : (s : State) (es : List Entry)
     → calls_in s (group_of es) ≡ commit_calls es + compact_calls s.count (length (updates_of es))
 one_more s [] = refl
-one_more s (e ∷ es) = none_more (calls_of s (e ∷ es)) ∙ ?
+one_more s (e ∷ es) = sym (none_more (calls_of s (e ∷ es)))
 
 pub calls_more : (s : State) (gs : List (List Entry)) (es : List Entry)
     → calls_in s (gs ++ group_of es)
@@ -91,3 +90,14 @@ calls_more s [] es = one_more s es ∙ zero_plus (commit_calls es + compact_call
 calls_more s (g ∷ gs) es =
     let rest = calls_more (state_after s g) gs es in
     omega (arith, rest)
+
+-- whether one is due
+
+pub not_due : (m n k : ℕ) → has_round n k ≡ false → m ≡ m + compact_calls n k
+not_due m n k is = subst (λ (b : Bool). m ≡ m + cond b 6 0) (sym is) (none_more m)
+
+pub due : (m l n k : ℕ) → has_round n k ≡ true → l ≡ m + 6 → l ≡ m + compact_calls n k
+due m l n k is e = subst (λ (b : Bool). l ≡ m + cond b 6 0) (sym is) e
+
+pub due_most : (m l n k : ℕ) → has_round n k ≡ true → l ≤ m + 6 → l ≤ m + compact_calls n k
+due_most m l n k is e = subst (λ (b : Bool). l ≤ m + cond b 6 0) (sym is) e

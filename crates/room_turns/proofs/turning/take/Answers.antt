@@ -1,4 +1,5 @@
-use Rattle.std.proofs.Common.{◌≡◌, ◌∙◌, refl, sym, ap, subst, rules, ℕ, List, [], map, true}
+use Rattle.std.proofs.Common.{◌≡◌, ◌∙◌, refl, sym, ap, subst, rules, ℕ, List, [], map, length, true}
+use Rattle.std.proofs.lemmas.List.{nil_from_length}
 use Rattle.std.specs.Prelude.{Ok, Err, None, Result}
 use Rattle.room_host.specs.Rests.{Each}
 use Rattle.room_hub.specs.declared.hub.Event.{Event}
@@ -26,7 +27,8 @@ use Rattle.room_turns.proofs.turning.take.Goals as goal
 pub returns-then-len-eq0-clause-commits : goal.returns-then-len-eq0-clause-commits
 returns-then-len-eq0-clause-commits g c told s groups is =
     let d = g.D.Disk in
-    let none : c.args.came.now ≡ [] = search rules in
+    let empty : length c.args.came.now ≡ 0 = search rules in
+    let none = nil_from_length c.args.came.now empty in
     put_none d.moment d.images s groups c.args.server.now.store.place c.args.server.now.store.place
     c.args.server.now.store.state (turned (server_in c.args.server.now) (events_of c.args.came.now)).entries
     c.args.disk.now c.new.result
