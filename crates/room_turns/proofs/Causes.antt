@@ -1,10 +1,12 @@
 -- Counts over several calls.
-use Rattle.std.proofs.Common.{◌≡◌, ◌≤◌, ◌<◌, ◌+◌, ◌-◌, ℕ, true, false, Bool, min, arith}
+use Rattle.std.proofs.Common.{◌≡◌, ◌≤◌, ◌<◌, ◌+◌, ◌-◌, ℕ, true, false, Bool, min, subst, arith}
 use Rattle.std.proofs.Math.Nat.{le_trans}
-use Rattle.std.specs.Prelude.{Result, Ok, Err}
+use Rattle.std.specs.Prelude.{Result, Ok, Err, IsErrOf}
 use Rattle.room_edge.specs.Causes.{Rose}
 use Rattle.room_edge.specs.Memory.{next}
 use Rattle.room_turns.specs.Faults.{NextFailed}
+use Rattle.room_turns.specs.declared.fault.ServeFault.{ServeFault}
+use Rattle.room_turns.specs.declared.fault.ServeFault.TheVariants.{Memory, Disk}
 
 pub rose_from : (was before now : ℕ) → was ≤ before → Rose before now → Rose was now
 rose_from was before now h rose = omega (arith, h, rose)
@@ -14,3 +16,9 @@ rose_to before now is rose h = le_trans rose h
 
 pub next_most : (n : ℕ) → next n ≤ n + 1
 next_most n = omega arith
+
+pub not_disk : {T : Type 0} (r : Result T ServeFault) → r ≡ Err Memory → IsErrOf r Disk → ⊥
+not_disk {T = T} r is h = at (subst (λ (s : Result T ServeFault). IsErrOf s Disk) is h)
+  where
+    at : IsErrOf {T = T} (Err Memory) Disk → ⊥
+    at e = cc

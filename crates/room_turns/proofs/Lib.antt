@@ -8,3 +8,5 @@ mod Standing
 mod Whole
 mod Compacted
 mod Calls
+mod Settled
+mod Done

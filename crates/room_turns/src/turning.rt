@@ -114,7 +114,7 @@ fn settle<T: Tree, D: Disk, H: Hub>(
         (H.happened hub.new) result) }
     ensures serving { D.tells ≡ true
         → OnOk result (IsServing (D.seen disk.new) (D.images disk.new (D.moment disk.new)) server.new) }
-    ensures state { (server_in server.new).state ≡ (server_in server.old).state }
+    ensures state { OnOk result ((server_in server.new).state ≡ (server_in server.old).state) }
     ensures still { disk.new ≡ disk.old }
     ensures asked { H.asked hub.new ≡ H.asked hub.old }
     ensures later { H.faults hub.old ≤ H.faults hub.new }
