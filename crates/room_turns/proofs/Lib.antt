@@ -10,3 +10,4 @@ mod Compacted
 mod Calls
 mod Settled
 mod Done
+mod Running

@@ -36,6 +36,13 @@ IsOfFiles fs Disk = ⊤
 IsOfFiles fs Hub = ⊥
 IsOfFiles fs (Damaged f at) = fs ≡ DamagedFiles f at
 
+-- what a turn may answer
+abbrev pub IsOfTurn : ServeFault → Type 0
+IsOfTurn Memory = ⊤
+IsOfTurn Disk = ⊤
+IsOfTurn Hub = ⊥
+IsOfTurn (Damaged f at) = ⊥
+
 -- behind the opening no file is found damaged
 abbrev pub IsWhole : ServeFault → Type 0
 IsWhole Memory = ⊤

@@ -1,6 +1,6 @@
 //! Why a room is served no longer.
 ghost use Rattle.std.specs.Prelude.{◌≡◌};
-ghost use Rattle.room_turns.specs.Faults.{of_server, of_store, IsWhole};
+ghost use Rattle.room_turns.specs.Faults.{of_server, of_store, IsOfTurn};
 ghost use Rattle.room_turns.specs.declared.fault.ServeFault.TheVariants.{Memory};
 
 use room_json::NoMemory;
@@ -36,7 +36,7 @@ impl From<NoMemory> for ServeFault {
 /// What a fault of a turn or a compaction becomes. A server that is served isn't broken.
 pub(crate) fn of_server(fault: ServerFault) -> ServeFault
     ensures becomes { result ≡ of_server fault }
-    ensures whole { IsWhole result }
+    ensures of_turn { IsOfTurn result }
 {
     match fault {
         ServerFault::Broken(_) => ServeFault::Memory,

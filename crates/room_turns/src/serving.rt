@@ -95,7 +95,7 @@ fn run<T: Tree, D: Disk, H: Hub>(
     ensures served { D.tells ≡ true → H.tells ≡ true → Served server.old.store.state
         (gathering (server_in server.old) turns serving.GoesOn [] [] 0) (H.happened hub.old) (H.happened hub.new)
         (D.seen disk.new) (D.images disk.new) (D.moment disk.old) (D.moment disk.old) (D.moment disk.new) result }
-    ensures moments { D.tells ≡ true → H.tells ≡ true → Keeps (D.moment disk.old) (D.images disk.old) (D.images disk.new) }
+    ensures keeps { D.tells ≡ true → H.tells ≡ true → Keeps (D.moment disk.old) (D.images disk.old) (D.images disk.new) }
     ensures asked { H.asked hub.new ≤ H.asked hub.old + turns }
     ensures whole { IfErr result IsWhole }
     ensures came { D.came disk.old disk.new }

@@ -10,7 +10,7 @@ ghost use Rattle.room_server.specs.Faults.{HasDiskCause as HasServerCause};
 ghost use Rattle.room_server.specs.Hosted.{server_in};
 ghost use Rattle.room_serving.specs.Serving.{Ending, goners};
 ghost use Rattle.room_serving.specs.Turns.{turned, has_round, is_round};
-ghost use Rattle.room_turns.specs.Faults.{IsWhole};
+ghost use Rattle.room_turns.specs.Faults.{IsOfTurn};
 ghost use Rattle.room_turns.specs.Gathering.{events_of};
 ghost use Rattle.room_turns.specs.Holding.{IsCompacted, IsLast, after_turns};
 ghost use Rattle.room_turns.specs.Parts.{trying, Stops};
@@ -46,7 +46,7 @@ fn take<T: Tree, D: Disk>(
     ensures compacted { D.tells ≡ true → (n : ℕ) → IsCompacted (D.seen disk.old) n
         → OnOk result (IsCompacted (D.seen disk.new) n) }
     ensures still { (turned (server_in server.old) (events_of came.now)).entries ≡ [] → disk.new ≡ disk.old }
-    ensures whole { IfErr result IsWhole }
+    ensures of_turn { IfErr result IsOfTurn }
     ensures came { D.came disk.old disk.new }
     ensures cause { HasDiskCause D.faults D.inner_faults D.stopped disk.old disk.new result }
 {
@@ -85,7 +85,7 @@ fn lose<T: Tree, D: Disk>(
     ensures serving { D.tells ≡ true
         → OnOk result (IsServing (D.seen disk.new) (D.images disk.new (D.moment disk.new)) server.new) }
     ensures still { disk.new ≡ disk.old }
-    ensures whole { IfErr result IsWhole }
+    ensures of_turn { IfErr result IsOfTurn }
     ensures cause { HasDiskCause D.faults D.inner_faults D.stopped disk.old disk.new result }
 {
     let came = gone_all(alloc, lost)?;
@@ -118,7 +118,7 @@ fn settle<T: Tree, D: Disk, H: Hub>(
     ensures still { disk.new ≡ disk.old }
     ensures asked { H.asked hub.new ≡ H.asked hub.old }
     ensures later { H.faults hub.old ≤ H.faults hub.new }
-    ensures whole { IfErr result IsWhole }
+    ensures of_turn { IfErr result IsOfTurn }
     ensures cause { HasDiskCause D.faults D.inner_faults D.stopped disk.old disk.new result }
 {
     let mut outs = outs;
@@ -151,7 +151,7 @@ fn compact_if_due<T: Tree, D: Disk>(
     ensures compacted { D.tells ≡ true → (k n : ℕ) → server.old.store.state.count ≡ before + k → n ≤ before + k
         → IsCompacted (D.seen disk.old) n ⊎ ((before < n) × (is_round n ≡ true))
         → OnOk result (IsCompacted (D.seen disk.new) n ⊎ IsLast (D.seen disk.old)) }
-    ensures whole { IfErr result IsWhole }
+    ensures of_turn { IfErr result IsOfTurn }
     ensures came { D.came disk.old disk.new }
     ensures cause { HasDiskCause D.faults D.inner_faults D.stopped disk.old disk.new result }
 {
@@ -184,7 +184,7 @@ pub(crate) fn turn<T: Tree, D: Disk, H: Hub>(
         → OnOk result (IsServing (D.seen disk.new) (D.images disk.new (D.moment disk.new)) server.new) }
     ensures asked { H.asked hub.new ≡ H.asked hub.old }
     ensures later { H.faults hub.old ≤ H.faults hub.new }
-    ensures whole { IfErr result IsWhole }
+    ensures of_turn { IfErr result IsOfTurn }
     ensures came { D.came disk.old disk.new }
     ensures cause { HasDiskCause D.faults D.inner_faults D.stopped disk.old disk.new result }
 {
