@@ -1,12 +1,13 @@
 -- Counts over several calls.
-use Rattle.std.proofs.Common.{◌≡◌, ◌≤◌, ◌<◌, ◌+◌, ◌-◌, ℕ, true, false, Bool, min, subst, arith}
+use Rattle.std.proofs.Common.{◌≡◌, ◌≤◌, ◌<◌, ◌+◌, ◌-◌, ℕ, true, false, Bool, min, subst, arith, List}
 use Rattle.std.proofs.Math.Nat.{le_trans}
 use Rattle.std.specs.Prelude.{Result, Ok, Err, IsErrOf}
+use Rattle.room_hub.specs.declared.hub.Happening.{Happening}
 use Rattle.room_edge.specs.Causes.{Rose}
 use Rattle.room_edge.specs.Memory.{next}
 use Rattle.room_turns.specs.Faults.{NextFailed}
 use Rattle.room_turns.specs.declared.fault.ServeFault.{ServeFault}
-use Rattle.room_turns.specs.declared.fault.ServeFault.TheVariants.{Memory, Disk}
+use Rattle.room_turns.specs.declared.fault.ServeFault.TheVariants.{Memory, Disk, Hub}
 
 pub rose_from : (was before now : ℕ) → was ≤ before → Rose before now → Rose was now
 rose_from was before now h rose = omega (arith, h, rose)
@@ -22,3 +23,19 @@ not_disk {T = T} r is h = at (subst (λ (s : Result T ServeFault). IsErrOf s Dis
   where
     at : IsErrOf {T = T} (Err Memory) Disk → ⊥
     at e = cc
+
+pub failed_within : {H : Type 0} (tells : Bool) (happened : H → List Happening) (asked faults : H → ℕ)
+    (first was is last : H) → faults first ≤ faults was → faults is ≤ faults last
+    → NextFailed tells happened asked faults was is → NextFailed tells happened asked faults first last
+failed_within tells happened asked faults first was is last low high f = record {
+  before = f.before;
+  behind = f.behind;
+  since = le_trans low f.since;
+  till = le_trans f.till high;
+  rose = f.rose;
+  asks = f.asks;
+  failed = f.failed;
+}
+
+pub not_disk_hub : {T : Type 0} → IsErrOf {T = T} (Err Hub) Disk → ⊥
+not_disk_hub h = cc

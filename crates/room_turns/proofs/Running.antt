@@ -4,7 +4,7 @@ use Rattle.std.proofs.Common.{◌∙◌, subst, arith, append-nil, length-append
 use Rattle.std.proofs.Math.Nat.{le_trans}
 use Rattle.std.proofs.lemmas.Bool.{cases_lt}
 use Rattle.std.specs.Prelude.{Result, Ok, Err, OnOk, IsErr, IsErrOf}
-use Rattle.room_disk.specs.Model.{Reads, Images, WholeBetween, WithinWhole}
+use Rattle.room_disk.specs.Model.{Reads, Images, Keeps, WholeBetween, WithinWhole}
 use Rattle.room_disk.proofs.Moments.{whole_then}
 use Rattle.room_host.specs.Rests.{Each}
 use Rattle.room_hub.specs.declared.hub.Event.{Event}
@@ -163,6 +163,11 @@ module _ {D : Type 0} (seen : D → Reads) (moment : D → ℕ) (images : D → 
               (t.compacted n low below round))
               (cases_lt u.state.count n);
         }
+
+    pub keeps_next : {T : Type 0} (r : Result T ServeFault)
+        → Turns {T = T} seen moment images s (turned u es) left ending t.groups t.owed at is u w mid new r
+        → Keeps (moment old) (images old) (images new)
+    keeps_next r did = (both_moments did.moments).keeps
 
     -- a turn that ended it
     pub stopped : {T : Type 0} (f : ServeFault) → IsOfTurn f
