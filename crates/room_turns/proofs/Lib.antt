@@ -11,3 +11,4 @@ mod Calls
 mod Settled
 mod Done
 mod Running
+mod Opening

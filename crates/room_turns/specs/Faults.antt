@@ -36,6 +36,13 @@ IsOfFiles fs Disk = ⊤
 IsOfFiles fs Hub = ⊥
 IsOfFiles fs (Damaged f at) = fs ≡ DamagedFiles f at
 
+-- what an opening may answer: it asks no hub
+abbrev pub IsOfOpening : ServeFault → Type 0
+IsOfOpening Memory = ⊤
+IsOfOpening Disk = ⊤
+IsOfOpening Hub = ⊥
+IsOfOpening (Damaged f at) = ⊤
+
 -- what a turn may answer
 abbrev pub IsOfTurn : ServeFault → Type 0
 IsOfTurn Memory = ⊤

@@ -1,6 +1,6 @@
 //! Why a room is served no longer.
 ghost use Rattle.std.specs.Prelude.{◌≡◌};
-ghost use Rattle.room_turns.specs.Faults.{of_server, of_store, IsOfTurn};
+ghost use Rattle.room_turns.specs.Faults.{of_server, of_store, IsOfOpening, IsOfTurn};
 ghost use Rattle.room_turns.specs.declared.fault.ServeFault.TheVariants.{Memory};
 
 use room_json::NoMemory;
@@ -47,7 +47,8 @@ pub(crate) fn of_server(fault: ServerFault) -> ServeFault
 
 /// What a fault of a recovery becomes; the others are of plannings and of a store that is broken.
 pub(crate) fn of_store(fault: StoreFault) -> ServeFault
-    ensures { result ≡ of_store fault }
+    ensures becomes { result ≡ of_store fault }
+    ensures of_opening { IsOfOpening result }
 {
     match fault {
         StoreFault::Disk => ServeFault::Disk,

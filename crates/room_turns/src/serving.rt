@@ -14,7 +14,7 @@ ghost use Rattle.room_serving.specs.Serving as serving;
 ghost use Rattle.room_store.specs.Consistent.{BeforeOr, IsStill, Since};
 ghost use Rattle.room_journal.specs.Files.{reading};
 ghost use Rattle.room_replay.specs.Files.{StandsFor};
-ghost use Rattle.room_turns.specs.Faults.{HasCauses, IsOfFiles, IsWhole};
+ghost use Rattle.room_turns.specs.Faults.{HasCauses, IsOfFiles, IsOfOpening, IsWhole};
 ghost use Rattle.room_turns.specs.Parts.{gathering};
 ghost use Rattle.room_turns.specs.Serves.{Served, ServesRoom};
 ghost use Rattle.room_turns.specs.Turning.{IsServing, HasDiskCause};
@@ -58,6 +58,7 @@ fn open<T: Tree, D: Disk>(
     ensures two { D.tells ≡ true → IsStill (reading 0 (D.seen disk.old 0) (D.seen disk.old 1))
         → OnOk result (D.moment disk.new ≡ D.moment disk.old + 2) }
     ensures fault { D.tells ≡ true → IfErr result (IsOfFiles (room_files (D.seen disk.old))) }
+    ensures of_opening { IfErr result IsOfOpening }
     ensures came { D.came disk.old disk.new }
     ensures cause { HasDiskCause D.faults D.inner_faults D.stopped disk.old disk.new result }
 {
