@@ -1,5 +1,5 @@
 -- Counts over several calls.
-use Rattle.std.proofs.Common.{◌≡◌, ◌≤◌, ◌<◌, ◌+◌, ◌-◌, ℕ, true, false, Bool, min, sym, ap, ◌∙◌, subst, arith, List}
+use Rattle.std.proofs.Common.{◌≡◌, ◌≤◌, ◌+◌, ℕ, Bool, sym, ap, ◌∙◌, subst, arith, List}
 use Rattle.std.proofs.Math.Nat.{le_trans}
 use Rattle.std.specs.Prelude.{Result, Ok, Err, IsErrOf, IfErr}
 use Rattle.room_hub.specs.declared.hub.Happening.{Happening}

@@ -1,13 +1,12 @@
 -- The snapshot of the file that counts, over a commit and a compaction.
-use Rattle.std.proofs.Common.{◌≡◌, ◌≤◌, ◌<◌, ◌+◌, ℕ, Bool, true, false, nat_lt, List, [], ◌∷◌, ◌++◌, refl, sym, ap, ◌∙◌, subst}
-use Rattle.std.proofs.Common.{arith, ⊎_elim, ◌⊎◌, inl, inr, Option, Some, None}
+use Rattle.std.proofs.Common.{◌≡◌, ◌≤◌, ◌<◌, ℕ, Bool, true, false, nat_lt, List, [], ◌∷◌, ◌++◌, refl, sym, ap, ◌∙◌, subst}
+use Rattle.std.proofs.Common.{arith, ⊎_elim, ◌⊎◌, inl, inr, Some, None}
 use Rattle.std.proofs.lemmas.Bool.Decides.{nat_tests}
 use Rattle.std.proofs.lemmas.Bool.{cases_lt}
-use Rattle.std.specs.Prelude.{Result, Ok, Err, OnOk, IsErr}
-use Rattle.room_bytes.specs.declared.entries.Format.{Format}
-use Rattle.room_bytes.specs.declared.entries.Format.TheVariants.{One, Two}
+use Rattle.std.specs.Prelude.{Ok}
+use Rattle.room_bytes.specs.declared.entries.Format.TheVariants.{Two}
 use Rattle.room_disk.specs.Model.{Reads, Images}
-use Rattle.room_journal.specs.Files.{Held, Says, Closed, Headless, Opens, says, Reading, Holds, reading, counted, greater, chosen}
+use Rattle.room_journal.specs.Files.{Held, Says, Closed, Headless, Opens, says, Holds, reading, counted, greater, chosen}
 use Rattle.room_journal.specs.Files.{last_generation}
 use Rattle.room_journal.specs.Rest.{Place, room}
 use Rattle.room_nodes.proofs.Gets.{true_false}
@@ -15,8 +14,7 @@ use Rattle.room_log.specs.Log.{State, Entry}
 use Rattle.room_replay.specs.Files.{held_of}
 use Rattle.room_server.specs.Commit.{Puts}
 use Rattle.room_server.specs.declared.fault.ServerFault.{ServerFault}
-use Rattle.room_store.specs.Consistent.{Holding, Settled, IsBelow, AreTwo, HasOneMore, IsSameFile}
-use Rattle.room_store.specs.Consistent.{IsCompacted as IsCompactedAt}
+use Rattle.room_store.specs.Consistent.{Settled, IsBelow, AreTwo}
 use Rattle.room_store.specs.Calls.{Commits, Compacts}
 use Rattle.room_turns.specs.Holding.{IsCompacted, IsLast}
 
@@ -30,8 +28,10 @@ below_first g h (Opens f k i) below = first_at (nat_lt k g) (nat_lt g k) (is_les
   where
     is_less : (k g : ℕ) → k < g → nat_lt k g ≡ true
     is_less k g below = grind (arith, nat_tests)
+
     isnt_less : (k g : ℕ) → k < g → nat_lt g k ≡ false
     isnt_less k g below = grind (arith, nat_tests)
+
     first_at : (a b : Bool) → a ≡ true → b ≡ false
         → greater 0 (Holds 0 Two g h) (counted 1 f k i) a b ≡ Holds 0 Two g h
     first_at true false e n = refl
@@ -46,8 +46,10 @@ below_second g h (Opens f k i) below = second_at (nat_lt g k) (nat_lt k g) (isnt
   where
     is_less : (k g : ℕ) → k < g → nat_lt k g ≡ true
     is_less k g below = grind (arith, nat_tests)
+
     isnt_less : (k g : ℕ) → k < g → nat_lt g k ≡ false
     isnt_less k g below = grind (arith, nat_tests)
+
     second_at : (a b : Bool) → a ≡ false → b ≡ true
         → greater 0 (counted 0 f k i) (Holds 1 Two g h) a b ≡ Holds 1 Two g h
     second_at false true e n = refl

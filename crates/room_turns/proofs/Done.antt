@@ -1,26 +1,24 @@
 -- A turn: its commit, what is tried, and a compaction.
-use Rattle.std.proofs.Common.{◌≡◌, ◌≤◌, ◌<◌, ◌+◌, ℕ, Bool, true, false, List, [], ◌∷◌, ◌++◌, length, refl, sym, ap, ◌∙◌, subst}
+use Rattle.std.proofs.Common.{◌≡◌, ◌≤◌, ◌<◌, ◌+◌, ℕ, true, List, [], ◌++◌, length, refl, sym, ap, ◌∙◌, subst}
 use Rattle.std.proofs.Common.{arith, append-nil, length-append, ◌⊎◌, inl, inr, ⊎_elim}
-use Rattle.std.proofs.Math.Nat.{le_trans}
 use Rattle.std.proofs.lemmas.Bool.{cases_lt}
-use Rattle.std.specs.Prelude.{Result, Ok, Err, OnOk, IsErr, IsErrOf}
-use Rattle.room_disk.specs.Model.{Reads, Images, WholeBetween, WithinWhole}
+use Rattle.std.specs.Prelude.{Result, Ok, Err, OnOk}
+use Rattle.room_disk.specs.Model.{Reads, Images, WithinWhole}
 use Rattle.room_disk.proofs.Moments.{whole_then}
 use Rattle.room_host.specs.Rests.{Each}
 use Rattle.room_hub.specs.declared.hub.Event.{Event}
 use Rattle.room_hub.specs.declared.hub.Happening.{Happening}
 use Rattle.room_log.specs.Log.{State, Entry, state_after, updates_of}
-use Rattle.room_model.specs.Server.{Outbound, Server}
+use Rattle.room_model.specs.Server.{Server}
 use Rattle.room_replay.specs.Files.{StandsFor}
 use Rattle.room_serving.specs.Serving.{Serving, Ending, group_of, served}
 use Rattle.room_serving.specs.Turns.{Turned, turned, is_round}
 use Rattle.room_turns.specs.Holding.{StandsWithin, IsCompacted, IsLast, WasLast, after_turns, calls_in}
-use Rattle.room_turns.specs.Parts.{trying, Leads, Begins, Stops}
+use Rattle.room_turns.specs.Parts.{trying, Stops}
 use Rattle.room_turns.specs.Turning.{CommitsTurn, Settles, TurnDone, TurnStopped, TurnEnds, Turns, commit_calls, compact_calls}
 use Rattle.room_turns.specs.declared.fault.ServeFault.{ServeFault}
-use Rattle.room_turns.specs.declared.fault.ServeFault.TheVariants.{Disk}
 use Rattle.room_turns.proofs.Calls.{calls_more}
-use Rattle.room_turns.proofs.Standing.{stands_more, stands_less, stands_all, whole_map, after_more}
+use Rattle.room_turns.proofs.Standing.{stands_less, stands_all, whole_map, after_more}
 use Rattle.room_turns.proofs.Turned.{turned_state, turned_count}
 
 module _ {D : Type 0} (seen : D → Reads) (moment : D → ℕ) (images : D → Images) (s : State) (v : Server)

@@ -1,6 +1,6 @@
 -- Events are gathered into a turn.
-use Rattle.std.proofs.Common.{◌≡◌, ◌≤◌, ◌<◌, ◌+◌, ◌-◌, ◌==◌, ℕ, zero, suc, Bool, true, false, cond, ◌||◌, nat_lt, nat_le}
-use Rattle.std.proofs.Common.{List, [], ◌∷◌, ◌++◌, map, length, refl, sym, ap, ◌∙◌, subst, arith, append-nil}
+use Rattle.std.proofs.Common.{◌≡◌, ◌≤◌, ◌<◌, ◌-◌, ◌==◌, ℕ, suc, Bool, true, false, cond, ◌||◌, nat_lt, nat_le}
+use Rattle.std.proofs.Common.{List, [], ◌∷◌, ◌++◌, length, refl, sym, ap, ◌∙◌, subst, arith, append-nil}
 use Rattle.std.proofs.lemmas.Bool.Decides.{nat_tests}
 use Rattle.room_hub.specs.declared.hub.Event.{Event}
 use Rattle.room_hub.specs.declared.hub.Happening.{Happening}
@@ -15,7 +15,6 @@ use Rattle.room_turns.specs.Gathering.{event_of, events_of, happening_of, ending
 use Rattle.room_turns.specs.Parts.{gathering, Leads, Begins}
 use Rattle.room_turns.specs.declared.gathering.Ending.{Ending}
 use Rattle.room_turns.specs.declared.gathering.Ending.TheVariants.{GoesOn, Ended, Missed}
-use Rattle.room_turns.specs.declared.gathering.Given.{Given}
 use Rattle.room_turns.specs.declared.gathering.Given.TheVariants.{Arrives, Ends}
 use Rattle.room_turns.proofs.Happening.{leads_none, leads_then, leads_as, leads_begins}
 

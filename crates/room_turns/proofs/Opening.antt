@@ -1,25 +1,22 @@
 -- The opening, and then the turns.
-use Rattle.std.proofs.Common.{◌≡◌, ◌≤◌, ◌<◌, ◌+◌, ℕ, true, false, List, [], ◌∷◌, length, take, refl, sym, ap, ◌∙◌, subst, arith}
-use Rattle.std.proofs.Common.{◌⊎◌, inl, inr, ⊎_elim, Option}
+use Rattle.std.proofs.Common.{◌≡◌, ◌≤◌, ◌<◌, ◌+◌, ℕ, List, refl, sym, ◌∙◌, arith}
+use Rattle.std.proofs.Common.{inl, inr, ⊎_elim, Option}
 use Rattle.std.proofs.lemmas.Bool.{cases_lt}
-use Rattle.std.specs.Prelude.{Result, Ok, Err, OnOk, IfErr}
-use Rattle.room_disk.specs.Model.{Reads, Images, Keeps, WholeBetween, WithinWhole}
+use Rattle.std.specs.Prelude.{Result, Ok, Err}
+use Rattle.room_disk.specs.Model.{Reads, Images, Keeps, WithinWhole}
 use Rattle.room_host.specs.Seen.{room_files}
 use Rattle.room_hub.specs.declared.hub.Happening.{Happening}
 use Rattle.room_journal.specs.Files.{reading}
 use Rattle.room_log.specs.Log.{State, Entry, empty_state}
 use Rattle.room_model.specs.Access.{Access}
-use Rattle.room_model.specs.Server.{Server}
 use Rattle.room_replay.specs.Files.{Files, New, Room, Stands, StandsFor}
-use Rattle.room_serving.specs.Serving as serving
 use Rattle.room_serving.specs.Serving.{Serving, opening, served}
 use Rattle.room_store.specs.Consistent.{BeforeOr, IsStill, Since}
 use Rattle.room_turns.specs.Faults.{IsOfFiles}
-use Rattle.room_turns.specs.Holding.{StandsWithin, after_turns}
-use Rattle.room_turns.specs.Serves.{IsDone, Served, Opened, Unopened, ServesRoom}
+use Rattle.room_turns.specs.Holding.{StandsWithin}
+use Rattle.room_turns.specs.Serves.{Served, Opened, Unopened, ServesRoom}
 use Rattle.room_turns.specs.declared.ended.Ended.{Ended}
 use Rattle.room_turns.specs.declared.fault.ServeFault.{ServeFault}
-use Rattle.room_turns.proofs.Standing.{stands_more}
 
 -- files stand for one state
 pub one_state : (s t : State) (fs : Files) → Stands s fs → Stands t fs → s ≡ t
@@ -33,6 +30,7 @@ one_state s t fs h k = ⊎_elim
   where
     same_room : (x y : State) → Room x ≡ Room y → x ≡ y
     same_room x y e = cc e
+
     no_room : (x : State) → New ≡ Room x → ⊥
     no_room x e = cc
 

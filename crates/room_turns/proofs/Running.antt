@@ -1,28 +1,26 @@
 -- Turns one after the other.
-use Rattle.std.proofs.Common.{◌≡◌, ◌≤◌, ◌<◌, ◌+◌, ℕ, Bool, true, false, nat_lt, List, [], ◌∷◌, ◌++◌, length, refl, sym, ap}
-use Rattle.std.proofs.Common.{◌∙◌, subst, arith, append-nil, length-append, ◌⊎◌, inl, inr, ⊎_elim, Option, Some, None}
+use Rattle.std.proofs.Common.{◌≡◌, ◌≤◌, ◌<◌, ◌+◌, ℕ, true, List, [], ◌∷◌, ◌++◌, length, refl, sym, ap}
+use Rattle.std.proofs.Common.{◌∙◌, subst, arith, length-append, ◌⊎◌, inl, inr, ⊎_elim, Some, None}
 use Rattle.std.proofs.Math.Nat.{le_trans}
 use Rattle.std.proofs.lemmas.Bool.{cases_lt}
-use Rattle.std.specs.Prelude.{Result, Ok, Err, OnOk, IsErr, IsErrOf}
-use Rattle.room_disk.specs.Model.{Reads, Images, Keeps, WholeBetween, WithinWhole}
+use Rattle.std.specs.Prelude.{Result, Ok, Err, IsErrOf}
+use Rattle.room_disk.specs.Model.{Reads, Images, Keeps, WithinWhole}
 use Rattle.room_disk.proofs.Moments.{whole_then}
 use Rattle.room_host.specs.Rests.{Each}
 use Rattle.room_hub.specs.declared.hub.Event.{Event}
 use Rattle.room_hub.specs.declared.hub.Happening.{Happening}
 use Rattle.room_log.specs.Log.{State, Entry, state_after}
-use Rattle.room_model.specs.Server.{Outbound, Server}
+use Rattle.room_model.specs.Server.{Server}
 use Rattle.room_replay.specs.Files.{StandsFor}
 use Rattle.room_serving.specs.Serving as serving
 use Rattle.room_serving.specs.Serving.{Serving, Serves, Ending, group_of, served, does_turn, is_asking, is_over}
-use Rattle.room_serving.specs.Turns.{Turned, turned, is_round}
-use Rattle.room_store.specs.Consistent.{Since}
-use Rattle.room_turns.specs.Breaking.{is_midway}
+use Rattle.room_serving.specs.Turns.{turned, is_round}
 use Rattle.room_turns.specs.Ending.{ending_in}
 use Rattle.room_turns.specs.Faults.{IsOfTurn}
-use Rattle.room_turns.specs.Holding.{StandsWithin, IsCompacted, IsLast, WasLast, after_turns, calls_of, calls_in}
-use Rattle.room_turns.specs.Parts.{gathering, trying, Leads, Begins, Stops}
+use Rattle.room_turns.specs.Holding.{StandsWithin, IsCompacted, WasLast, after_turns, calls_in}
+use Rattle.room_turns.specs.Parts.{gathering, trying, Leads, Begins}
 use Rattle.room_turns.specs.Serves.{IsDone, Served}
-use Rattle.room_turns.specs.Turning.{TurnDone, TurnStopped, TurnEnds, Turns}
+use Rattle.room_turns.specs.Turning.{TurnDone, TurnStopped, Turns}
 use Rattle.room_turns.specs.declared.ended.Ended.{Ended}
 use Rattle.room_turns.specs.declared.fault.ServeFault.{ServeFault}
 use Rattle.room_turns.specs.declared.fault.ServeFault.TheVariants.{Memory, Disk, Hub, Damaged}
@@ -214,6 +212,7 @@ module _ {D : Type 0} (seen : D → Reads) (moment : D → ℕ) (images : D → 
         at_most : (now before : ℕ) (gs hs : List (List Entry)) → now ≤ before + calls_in s gs
             → now ≤ before + calls_in s (gs ++ hs)
         at_most now before gs hs h = omega (arith, h, calls_grow s gs hs)
+
         same_disk : IsErrOf {T = Ended} (Err f) Disk → IsErrOf {T = T} (Err f) Disk
         same_disk h = cc h
 
@@ -258,6 +257,7 @@ module _ {D : Type 0} (seen : D → Reads) (moment : D → ℕ) (images : D → 
       at_most : (now before : ℕ) (gs hs : List (List Entry)) → now ≡ before + calls_in s gs
           → now ≤ before + calls_in s (gs ++ hs)
       at_most now before gs hs h = omega (arith, h, calls_grow s gs hs)
+
       not_disk : IsErrOf {T = Ended} (Err Memory) Disk → ⊥
       not_disk h = cc
 

@@ -1,7 +1,7 @@
 -- All that goes out is tried, and what is lost is gone.
-use Rattle.std.proofs.Common.{◌≡◌, ◌≤◌, ◌<◌, ◌+◌, ℕ, Bool, true, false, List, [], ◌∷◌, ◌++◌, map, length, refl, sym, ap, ◌∙◌}
+use Rattle.std.proofs.Common.{◌≡◌, ◌≤◌, ◌<◌, ◌+◌, ℕ, List, [], ◌∷◌, map, length, refl, sym, ap, ◌∙◌}
 use Rattle.std.proofs.Common.{subst, arith, append-nil}
-use Rattle.std.specs.Prelude.{Result, Ok, Err, IsErrOf}
+use Rattle.std.specs.Prelude.{Result, IsErrOf}
 use Rattle.std.specs.FinMap.{len}
 use Rattle.room_hub.specs.declared.hub.Happening.{Happening}
 use Rattle.room_links.specs.declared.outs.Out.{Out}
@@ -14,7 +14,7 @@ use Rattle.room_turns.specs.Parts.{trying, Leads, Begins, Stops}
 use Rattle.room_turns.specs.Trying.{owed_after}
 use Rattle.room_turns.specs.Turning.{Settles}
 use Rattle.room_turns.specs.declared.fault.ServeFault.{ServeFault}
-use Rattle.room_turns.specs.declared.fault.ServeFault.TheVariants.{Memory, Disk}
+use Rattle.room_turns.specs.declared.fault.ServeFault.TheVariants.{Disk}
 use Rattle.room_turns.proofs.Happening.{leads_none, leads_then, leads_as, leads_begin}
 use Rattle.room_turns.proofs.Turned.{weight, goners_less, treat_is}
 

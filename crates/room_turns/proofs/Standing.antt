@@ -1,22 +1,21 @@
 -- What images stand for while turns are committed.
-use Rattle.std.proofs.Common.{◌≡◌, ◌≤◌, ◌<◌, ◌+◌, ℕ, zero, suc, List, [], ◌∷◌, ◌++◌, length, take, refl, sym, ap, ◌∙◌, subst}
-use Rattle.std.proofs.Common.{arith, ⊎_elim, ◌⊎◌, append-nil, length-append}
-use Rattle.std.proofs.Math.Seq.{take-append_seam, take-length}
+use Rattle.std.proofs.Common.{◌≡◌, ◌≤◌, ◌+◌, ℕ, List, [], ◌∷◌, ◌++◌, length, refl, sym, ap, ◌∙◌, subst}
+use Rattle.std.proofs.Common.{arith, ⊎_elim, ◌⊎◌, length-append}
+use Rattle.std.proofs.Math.Seq.{take-length}
 use Rattle.std.proofs.lemmas.List.{take-append-le}
-use Rattle.std.specs.Prelude.{Result, Ok, Err, OnOk, IsErr}
-use Rattle.room_disk.specs.Model.{Reads, Images, Keeps, WholeBetween, WithinWhole}
-use Rattle.room_disk.proofs.Moments.{whole_then}
+use Rattle.std.specs.Prelude.{Ok, Err}
+use Rattle.room_disk.specs.Model.{Reads, Images, WholeBetween, WithinWhole}
 use Rattle.room_host.specs.Rests.{Each}
 use Rattle.room_journal.specs.Rest.{Place}
 use Rattle.room_nodes.proofs.Gets.{true_false}
 use Rattle.room_log.specs.Log.{State, Entry, state_after}
 use Rattle.room_replay.specs.Files.{StandsFor}
-use Rattle.room_server.specs.Commit.{Puts, HoldsNow}
+use Rattle.room_server.specs.Commit.{Puts}
 use Rattle.room_server.specs.declared.fault.ServerFault.{ServerFault}
 use Rattle.room_serving.specs.Serving.{group_of}
 use Rattle.room_store.specs.Calls.{Commits}
 use Rattle.room_turns.specs.Holding.{StandsWithin, after_turns}
-use Rattle.room_turns.specs.Turning.{CommitsTurn, commit_calls}
+use Rattle.room_turns.specs.Turning.{CommitsTurn}
 use Rattle.room_turns.specs.declared.fault.ServeFault.{ServeFault}
 
 -- some turns, and then others
@@ -180,5 +179,6 @@ module _ {D : Type 0} (moment : D → ℕ) (images : D → Images) where
       where
         same : (n : ℕ) → n ≡ n + 0
         same n = omega arith
+
         most : (n : ℕ) → n ≤ n + 0
         most n = omega arith

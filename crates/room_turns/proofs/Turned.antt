@@ -1,26 +1,26 @@
 -- A turn of the server is the model's turn of the events, and where it leads.
-use Rattle.std.proofs.Common.{◌≡◌, ◌≤◌, ◌+◌, ◌-◌, ℕ, zero, suc, Bool, true, false, cond, List, [], ◌∷◌, ◌++◌, map, length, refl}
-use Rattle.std.proofs.Common.{sym, ap, ◌∙◌, subst, arith, rules, append-nil, Option, Some, None}
+use Rattle.std.proofs.Common.{◌≡◌, ◌≤◌, ◌+◌, ◌-◌, ℕ, Bool, true, false, cond, List, [], ◌∷◌, ◌++◌, length, refl}
+use Rattle.std.proofs.Common.{sym, ap, ◌∙◌, subst, arith, append-nil, Option, Some, None}
 use Rattle.std.specs.Prelude.{is_some}
 use Rattle.std.specs.Cmp.{nat_cmp_total}
 use Rattle.std.specs.Ordering.{nat_cmp}
-use Rattle.std.specs.FinMap.{FinMap, get, remove, len, len-remove, len-empty, empty, empty_of_len, get-empty}
+use Rattle.std.specs.FinMap.{FinMap, get, remove, len, len-remove, empty_of_len, get-empty}
 use Rattle.room_hub.specs.declared.hub.Event.{Event}
 use Rattle.room_hub.specs.declared.hub.Event.TheVariants as event
 use Rattle.room_host.proofs.Serving.{serve_follows}
-use Rattle.room_log.specs.Log.{State, Entry, Update, Join, Updated, after, state_after, updates_of}
+use Rattle.room_log.specs.Log.{State, Entry, Join, Updated, after, state_after, updates_of}
 use Rattle.room_msg.specs.Frame.{client_frame_in}
-use Rattle.room_model.specs.Server.{Server, Served, Link, Outbound, opened, opened_at, gone, gone_at, serve, nothing, left_to}
+use Rattle.room_model.specs.Server.{Server, Served, Link, opened_at, gone, gone_at, serve, left_to}
 use Rattle.room_model.specs.World.{entries_in, state_with}
 use Rattle.room_arrivals.specs.Serving.{listed}
 use Rattle.room_server.specs.Turn as program
 use Rattle.room_server.specs.declared.arrivals.Came.{Came}
 use Rattle.room_server.specs.declared.arrivals.Came.TheVariants as came
-use Rattle.room_serving.specs.Serving.{Serving, Ending, goners, group_of, treat, does_turn}
+use Rattle.room_serving.specs.Serving.{Ending, goners, group_of, treat}
 use Rattle.room_serving.specs.Turns as model
 use Rattle.room_serving.specs.Turns.{Turned, arrive, turned}
 use Rattle.room_turns.specs.Gathering.{event_of, events_of}
-use Rattle.room_turns.specs.Parts.{gathering, trying}
+use Rattle.room_turns.specs.Parts.{trying}
 
 -- the program's turn
 
@@ -167,8 +167,12 @@ pub goners_less : (v : Server) (ks : List ℕ)
     → len (turned v (goners ks)).server.links + weight (turned v (goners ks)).outs ≤ len v.links
 goners_less v [] = omega arith
 goners_less v (k ∷ ks) =
-    omega (arith, gone_less v k (get v.links k) refl, goners_less (gone v k).server ks,
-    weight_then (gone v k).outs (turned (gone v k).server (goners ks)).outs)
+    omega (
+      arith,
+      gone_less v k (get v.links k) refl,
+      goners_less (gone v k).server ks,
+      weight_then (gone v k).outs (turned (gone v k).server (goners ks)).outs,
+    )
 
 -- what the model does with losses
 

@@ -1,6 +1,6 @@
 -- A server that isn't broken.
-use Rattle.std.proofs.Common.{◌≡◌, Bool, true, false, Option, Some, None, refl, subst}
-use Rattle.std.specs.Prelude.{Result, Ok, Err}
+use Rattle.std.proofs.Common.{◌≡◌, Bool, true, false, Option, Some, None, subst}
+use Rattle.std.specs.Prelude.{Result, Ok}
 use Rattle.room_store.specs.declared.fault.Cause.{Cause}
 use Rattle.room_server.specs.Faults.{IsBroken, cause_of}
 use Rattle.room_server.specs.declared.fault.ServerFault.{ServerFault}

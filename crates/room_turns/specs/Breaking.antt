@@ -1,7 +1,5 @@
 -- Whether the trying of a turn was broken off.
 use Rattle.std.specs.Prelude.{ℕ, Bool, true, false, List, [], ◌∷◌}
-use Rattle.room_hub.specs.declared.hub.Event.{Event}
-use Rattle.room_hub.specs.declared.hub.Deed.{Deed}
 use Rattle.room_hub.specs.declared.hub.Happening.{Happening}
 use Rattle.room_hub.specs.declared.hub.Happening.TheVariants.{Gave, Did, Failed}
 use Rattle.room_model.specs.Server.{Outbound}

@@ -1,5 +1,5 @@
 -- What a hub gives, as the server takes it.
-use Rattle.std.specs.Prelude.{◌≡◌, Bool, true, false, List, map}
+use Rattle.std.specs.Prelude.{Bool, true, false, List, map}
 use Rattle.room_hub.specs.declared.hub.Event.{Event}
 use Rattle.room_hub.specs.declared.hub.Event.TheVariants as event
 use Rattle.room_hub.specs.declared.hub.Happening.{Happening}

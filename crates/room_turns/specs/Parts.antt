@@ -1,5 +1,5 @@
 -- The parts of serving: where the model stands before one of them, and what happens on the hub from there.
-use Rattle.std.specs.Prelude.{◌≡◌, ◌≤◌, ℕ, true, false, List, [], ◌∷◌, ◌++◌, length, Result, IsErrOf}
+use Rattle.std.specs.Prelude.{◌≡◌, ◌≤◌, ℕ, false, List, [], ◌++◌, length, Result, IsErrOf}
 use Rattle.room_hub.specs.declared.hub.Event.{Event}
 use Rattle.room_hub.specs.declared.hub.Happening.{Happening}
 use Rattle.room_log.specs.Log.{Entry}

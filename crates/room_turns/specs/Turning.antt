@@ -1,5 +1,5 @@
 -- A turn of the server: what it does to the disk, and what happens on the hub.
-use Rattle.std.specs.Prelude.{◌≡◌, ◌⊎◌, ◌≤◌, ◌<◌, ℕ, ◌+◌, Bool, true, false, if◌then◌else◌, List, [], ◌∷◌, ◌++◌, length, None}
+use Rattle.std.specs.Prelude.{◌≡◌, ◌⊎◌, ◌≤◌, ℕ, ◌+◌, Bool, true, false, if◌then◌else◌, List, [], ◌∷◌, ◌++◌, length, None}
 use Rattle.std.specs.Prelude.{Result, Ok, Err, IsErrOf, OnOk}
 use Rattle.room_disk.specs.Model.{Reads, Images, WithinWhole}
 use Rattle.room_edge.specs.Causes.{Rose}
@@ -9,7 +9,7 @@ use Rattle.room_log.specs.Log.{State, Entry}
 use Rattle.room_model.specs.Server.{Outbound, Server}
 use Rattle.room_replay.specs.Files.{StandsFor}
 use Rattle.room_server.specs.Hosted.{Hosted, broken_by}
-use Rattle.room_serving.specs.Serving.{Serving, Ending, group_of, served}
+use Rattle.room_serving.specs.Serving.{Ending, group_of, served}
 use Rattle.room_serving.specs.Turns.{Turned, has_round, is_round}
 use Rattle.room_store.specs.Stored.{IsOnDisk}
 use Rattle.room_turns.specs.Holding.{StandsWithin, IsCompacted, WasLast, after_turns, calls_in}

@@ -94,7 +94,11 @@ fn attempt<H: Hub>(hub: &mut H, out: &Out, lost: &mut Seq<u64>) -> Result<(), No
 }
 
 /// Tries all of them in order; the connections with a loss, in rising order.
-pub(crate) fn try_all<H: Hub>(alloc: Global, hub: &mut H, outs: &[Out]) -> Result<Seq<u64>, NoMemory>
+pub(crate) fn try_all<H: Hub>(
+    alloc: Global,
+    hub: &mut H,
+    outs: &[Out],
+) -> Result<Seq<u64>, NoMemory>
     ensures leads { H.tells ≡ true → (v : Server) (left : ℕ) (ending : Ending) (todo : List (ℕ × Outbound))
         (groups : List (List Entry)) (owed : ℕ) → map written todo ≡ outs.now → IfOk result (λ lost.
         Leads (trying v left ending todo [] groups owed) (H.happened hub.old) (H.happened hub.new)

@@ -1,5 +1,5 @@
 use Rattle.std.proofs.Common.{◌≡◌, ◌≤◌, ◌<◌, ◌+◌, ◌-◌, ◌==◌, ◌||◌, nat_le, ◌++◌, ◌∷◌, [], length, sym, ap, subst, arith, rules}
-use Rattle.std.proofs.Common.{List, ℕ, Bool, true, false, length-append}
+use Rattle.std.proofs.Common.{List, ℕ, true, false, length-append}
 use Rattle.std.proofs.lemmas.Bool.Decides.{nat_tests}
 use Rattle.room_hub.specs.declared.hub.Happening.{Happening}
 use Rattle.room_server.specs.declared.arrivals.Came.{Came}
@@ -7,11 +7,10 @@ use Rattle.room_serving.specs.Serving as serving
 use Rattle.room_serving.specs.Serving.{turn_if_full}
 use Rattle.room_turns.specs.Gathering.{events_of, happening_of}
 use Rattle.room_turns.specs.Parts.{gathering, Leads, Begins}
-use Rattle.room_turns.specs.declared.gathering.Given.{Given}
 use Rattle.room_turns.specs.declared.gathering.Given.TheVariants.{Arrives, Ends}
 use Rattle.room_turns.proofs.Causes.{next_most}
 use Rattle.room_turns.proofs.Happening.{on_err}
-use Rattle.room_turns.proofs.Gathered.{gather_first, gather_next, gather_end, gather_full, gather_begins, left_some}
+use Rattle.room_turns.proofs.Gathered.{gather_next, gather_end, gather_full, gather_begins, left_some}
 use Rattle.room_turns.proofs.gathering.gather.Goals as goal
 
 pub loop-left-preserved : goal.loop-left-preserved

@@ -1,5 +1,4 @@
-use Rattle.std.proofs.Common.{◌≡◌, ◌≤◌, ◌+◌, ℕ, sym, subst, true}
-use Rattle.room_disk.specs.Model.{Reads}
+use Rattle.std.proofs.Common.{◌+◌, sym, subst}
 use Rattle.room_host.specs.Seen.{room_files}
 use Rattle.room_replay.specs.Files.{Stands, StandsFor}
 use Rattle.room_server.specs.Hosted.{Hosted}

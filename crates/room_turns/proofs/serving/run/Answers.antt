@@ -1,25 +1,18 @@
-use Rattle.std.proofs.Common.{◌≡◌, ◌∙◌, ◌≤◌, ◌<◌, ◌+◌, refl, sym, ap, subst, rules, arith, ℕ, List, [], length, true, Some}
+use Rattle.std.proofs.Common.{◌≡◌, refl, sym, ap, subst, rules, arith, []}
 use Rattle.std.proofs.Math.Nat.{le_trans}
-use Rattle.std.specs.Prelude.{Ok, Err, Result, IfErr}
-use Rattle.room_host.specs.Rests.{Each}
-use Rattle.room_log.specs.Log.{State, Entry}
-use Rattle.room_model.specs.Server.{Server}
-use Rattle.room_replay.specs.Files.{StandsFor}
+use Rattle.std.specs.Prelude.{Err, Result}
 use Rattle.room_server.specs.Hosted.{server_in}
 use Rattle.room_serving.specs.Serving as serving
 use Rattle.room_serving.specs.Serving.{Ending, does_turn}
-use Rattle.room_serving.specs.Turns.{turned}
-use Rattle.room_turns.specs.Faults.{NextFailed, IsOfTurn}
 use Rattle.room_turns.specs.Gathering.{events_of, ending_is}
-use Rattle.room_turns.specs.Parts.{gathering, Leads, Begins}
+use Rattle.room_turns.specs.Parts.{gathering}
 use Rattle.room_turns.specs.Serves.{Served}
-use Rattle.room_turns.specs.Turning.{Turns}
 use Rattle.room_turns.specs.declared.ended.Ended.{Ended}
 use Rattle.room_turns.specs.declared.fault.ServeFault.{ServeFault}
-use Rattle.room_turns.specs.declared.fault.ServeFault.TheVariants.{Memory, Disk, Hub}
+use Rattle.room_turns.specs.declared.fault.ServeFault.TheVariants.{Memory}
 use Rattle.room_turns.proofs.Causes.{failed_within, not_disk_hub}
 use Rattle.room_turns.proofs.Running.{SoFar, so_first, so_next, keeps_next, stopped, not_gathered, finished}
-use Rattle.room_turns.proofs.Running.{over_ended, over_missed, over_turns}
+use Rattle.room_turns.proofs.Running.{over_turns}
 use Rattle.room_turns.proofs.serving.run.Goals as goal
 
 pub loop-left-init : goal.loop-left-init

@@ -1,5 +1,4 @@
-use Rattle.std.proofs.Common.{◌≡◌, ◌≤◌, ◌+◌, ℕ, true}
-use Rattle.room_disk.specs.Model.{Keeps}
+use Rattle.std.proofs.Common.{◌≡◌, ◌≤◌, ◌+◌, true}
 use Rattle.room_server.specs.Hosted.{server_in}
 use Rattle.room_serving.specs.Serving as serving
 use Rattle.room_turns.specs.Turning.{IsServing}

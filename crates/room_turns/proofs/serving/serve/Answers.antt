@@ -1,19 +1,18 @@
-use Rattle.std.proofs.Common.{◌≡◌, ◌∙◌, ◌≤◌, ◌<◌, ◌+◌, ◌⊎◌, inl, inr, refl, sym, ap, subst, rules, arith, ℕ, List, [], true}
+use Rattle.std.proofs.Common.{◌≡◌, ◌⊎◌, inl, sym, subst, rules, arith, []}
 use Rattle.std.proofs.Math.Nat.{le_trans}
-use Rattle.std.specs.Prelude.{Ok, Err, Result, option_map}
+use Rattle.std.specs.Prelude.{Err, Result, option_map}
 use Rattle.room_access.specs.View.{access_of}
 use Rattle.room_host.specs.Seen.{room_files}
 use Rattle.room_log.specs.Log.{State}
 use Rattle.room_model.specs.Server.{Server}
 use Rattle.room_replay.specs.Files.{Stands}
-use Rattle.room_server.specs.Hosted.{server_in}
 use Rattle.room_serving.specs.Serving as serving
 use Rattle.room_turns.specs.Faults.{IsOfFiles}
 use Rattle.room_turns.specs.Parts.{gathering}
 use Rattle.room_turns.specs.Serves.{Served, Opened, ServesRoom}
 use Rattle.room_turns.specs.declared.ended.Ended.{Ended}
 use Rattle.room_turns.specs.declared.fault.ServeFault.{ServeFault}
-use Rattle.room_turns.specs.declared.fault.ServeFault.TheVariants.{Memory, Disk, Hub}
+use Rattle.room_turns.specs.declared.fault.ServeFault.TheVariants.{Disk}
 use Rattle.room_turns.proofs.Causes.{rose_from, handed_on, no_hub, all_errs}
 use Rattle.room_turns.proofs.Happening.{on_ok}
 use Rattle.room_turns.proofs.Opening.{one_state, unopened, opened_then, serves_room}

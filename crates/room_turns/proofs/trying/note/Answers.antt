@@ -1,6 +1,5 @@
-use Rattle.std.proofs.Common.{◌≡◌, ◌∙◌, sym, ap, subst, rules, true, false, ℕ, List}
+use Rattle.std.proofs.Common.{◌≡◌, sym, rules, true, false}
 use Rattle.std.specs.Prelude.{slice_get}
-use Rattle.std.specs.List.{insert}
 use Rattle.room_turns.specs.Trying.{is_number, number_below}
 use Rattle.room_turns.proofs.Noting.{there, not_there}
 use Rattle.room_turns.proofs.trying.note.Goals as goal

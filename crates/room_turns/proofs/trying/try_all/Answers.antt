@@ -1,12 +1,10 @@
-use Rattle.std.proofs.Common.{◌≡◌, ◌≤◌, ◌+◌, ◌++◌, ◌∷◌, [], sym, ap, subst, arith, rules, List, ℕ, Bool, true, false, drop}
-use Rattle.std.proofs.Common.{length, ◌∙◌}
+use Rattle.std.proofs.Common.{◌≡◌, ◌+◌, ◌∷◌, [], sym, ap, subst, arith, rules, List, true, drop}
+use Rattle.std.proofs.Common.{◌∙◌}
 use Rattle.std.proofs.lemmas.List.{drop_more, drop_all}
-use Rattle.room_hub.specs.declared.hub.Happening.{Happening}
 use Rattle.room_links.specs.declared.outs.Out.{Out}
-use Rattle.room_links.specs.Outs.{written}
 use Rattle.room_turns.specs.Trying.{Tries, TriesOrNot}
 use Rattle.room_turns.proofs.Happening.{on_err}
-use Rattle.room_turns.proofs.Tried.{Trying, try_next, try_begins, try_done, tried_all}
+use Rattle.room_turns.proofs.Tried.{Trying, try_begins, try_done, tried_all}
 use Rattle.room_turns.proofs.trying.try_all.Goals as goal
 
 pub loop-out-preserved : goal.loop-out-preserved

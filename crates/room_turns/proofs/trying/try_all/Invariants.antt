@@ -1,4 +1,4 @@
-use Rattle.std.proofs.Common.{◌≡◌, ◌≤◌, ℕ, true, List, [], map, drop}
+use Rattle.std.proofs.Common.{◌≡◌, ◌≤◌, ℕ, true, List, map, drop}
 use Rattle.room_links.specs.Outs.{written}
 use Rattle.room_log.specs.Log.{Entry}
 use Rattle.room_model.specs.Server.{Outbound, Server}

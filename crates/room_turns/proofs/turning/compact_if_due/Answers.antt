@@ -1,18 +1,15 @@
-use Rattle.std.proofs.Common.{◌≡◌, ◌∙◌, ◌≤◌, ◌<◌, ◌+◌, ◌/◌, ◌⊎◌, inl, inr, ⊎_elim, refl, sym, ap, subst, rules, arith, ℕ, true}
-use Rattle.std.proofs.Common.{false}
-use Rattle.std.specs.Prelude.{Ok, Err, Result}
-use Rattle.room_disk.specs.Model.{Reads}
-use Rattle.room_host.specs.Rests.{Each}
+use Rattle.std.proofs.Common.{◌≡◌, ◌∙◌, ◌≤◌, ◌<◌, ◌+◌, ◌/◌, inl, ⊎_elim, sym, ap, subst, rules, arith, ℕ, true}
+use Rattle.std.specs.Prelude.{Ok, Result}
 use Rattle.room_log.specs.Log.{State}
 use Rattle.room_model.specs.Server.{Server}
 use Rattle.room_nodes.proofs.Gets.{true_false}
 use Rattle.room_replay.specs.Files.{StandsFor}
-use Rattle.room_server.specs.Hosted.{server_in, broken_by}
+use Rattle.room_server.specs.Hosted.{broken_by}
 use Rattle.room_server.specs.declared.fault.ServerFault.{ServerFault}
-use Rattle.room_serving.specs.Turns.{has_round, is_round}
+use Rattle.room_serving.specs.Turns.{is_round}
 use Rattle.room_store.specs.Calls.{Compacts}
 use Rattle.room_store.specs.Stored.{held}
-use Rattle.room_turns.specs.Holding.{IsCompacted, IsLast}
+use Rattle.room_turns.specs.Holding.{IsCompacted}
 use Rattle.room_turns.proofs.Calls.{no_round, some_round, among, not_due, due, due_most}
 use Rattle.room_turns.proofs.Compacted.{compacted}
 use Rattle.room_turns.proofs.Whole.{store_whole, stays_whole}

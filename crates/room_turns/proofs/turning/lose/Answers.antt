@@ -1,4 +1,4 @@
-use Rattle.std.proofs.Common.{◌≡◌, ◌∙◌, sym, ap, subst, rules, ℕ, List, []}
+use Rattle.std.proofs.Common.{◌≡◌, ◌∙◌, ap, rules, List}
 use Rattle.room_hub.specs.declared.hub.Event.{Event}
 use Rattle.room_server.specs.Hosted.{server_in}
 use Rattle.room_serving.specs.Serving.{goners}

@@ -1,20 +1,16 @@
-use Rattle.std.proofs.Common.{◌≡◌, ◌∙◌, ◌≤◌, ◌<◌, ◌+◌, refl, sym, ap, subst, rules, arith, ℕ, List, [], map, length, true}
+use Rattle.std.proofs.Common.{◌≡◌, ◌∙◌, ◌<◌, refl, sym, ap, subst, rules, arith, ℕ, List, [], map, length}
 use Rattle.std.proofs.lemmas.List.{nil_from_length}
-use Rattle.std.specs.Prelude.{Ok, Err, Result, OnOk, OnErr}
+use Rattle.std.specs.Prelude.{Err}
 use Rattle.room_links.specs.Outs.{written}
-use Rattle.room_links.specs.declared.outs.Out.{Out}
-use Rattle.room_log.specs.Log.{State, Entry}
-use Rattle.room_model.specs.Server.{Outbound, Server}
+use Rattle.room_model.specs.Server.{Server}
 use Rattle.room_server.specs.Hosted.{server_in}
-use Rattle.room_serving.specs.Serving.{Ending, goners, treat}
-use Rattle.room_serving.specs.Turns.{turned}
-use Rattle.room_turns.specs.Parts.{trying, Leads, Begins, Stops}
+use Rattle.room_serving.specs.Serving.{treat}
+use Rattle.room_turns.specs.Parts.{trying, Leads, Begins}
 use Rattle.room_turns.specs.Trying.{owed_after}
-use Rattle.room_turns.specs.declared.fault.ServeFault.{ServeFault}
-use Rattle.room_turns.specs.declared.fault.ServeFault.TheVariants.{Memory, Disk}
+use Rattle.room_turns.specs.declared.fault.ServeFault.TheVariants.{Memory}
 use Rattle.room_turns.proofs.Causes.{not_disk}
 use Rattle.room_turns.proofs.Happening.{on_err}
-use Rattle.room_turns.proofs.Settled.{Settling, settle_first, settle_next, settled, stops_trying, stops_losing, less_to_do}
+use Rattle.room_turns.proofs.Settled.{settle_first, settle_next, settled, stops_trying, stops_losing, less_to_do}
 use Rattle.room_turns.proofs.Turned.{goners_state}
 use Rattle.room_turns.proofs.turning.settle.Goals as goal
 

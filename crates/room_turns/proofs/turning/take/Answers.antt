@@ -1,12 +1,10 @@
-use Rattle.std.proofs.Common.{◌≡◌, ◌∙◌, refl, sym, ap, subst, rules, ℕ, List, [], map, length, true}
+use Rattle.std.proofs.Common.{◌≡◌, ◌∙◌, ap, subst, rules, ℕ, List, map, length}
 use Rattle.std.proofs.lemmas.List.{nil_from_length}
-use Rattle.std.specs.Prelude.{Ok, Err, None, Result}
+use Rattle.std.specs.Prelude.{Ok, Err, Result}
 use Rattle.room_host.specs.Rests.{Each}
-use Rattle.room_hub.specs.declared.hub.Event.{Event}
 use Rattle.room_links.specs.Outs.{written}
 use Rattle.room_links.specs.declared.outs.Out.{Out}
-use Rattle.room_log.specs.Log.{State, Entry, state_after}
-use Rattle.room_model.specs.Server.{Outbound}
+use Rattle.room_log.specs.Log.{Entry}
 use Rattle.room_replay.specs.Files.{StandsFor}
 use Rattle.room_server.specs.Commit.{Puts}
 use Rattle.room_server.specs.Hosted.{server_in, broken_by}
@@ -17,10 +15,9 @@ use Rattle.room_serving.specs.Turns.{Turned, turned}
 use Rattle.room_store.specs.Stored.{held}
 use Rattle.room_turns.specs.Gathering.{events_of}
 use Rattle.room_turns.specs.Turning.{CommitsTurn}
-use Rattle.room_turns.specs.declared.fault.ServeFault.{ServeFault}
 use Rattle.room_turns.proofs.Compacted.{put_keeps}
 use Rattle.room_turns.proofs.Standing.{put_ok, put_err, put_none}
-use Rattle.room_turns.proofs.Turned.{as_model, same_turn, program_state}
+use Rattle.room_turns.proofs.Turned.{same_turn, program_state}
 use Rattle.room_turns.proofs.Whole.{store_whole, stays_whole}
 use Rattle.room_turns.proofs.turning.take.Goals as goal
 

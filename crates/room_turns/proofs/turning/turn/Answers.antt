@@ -1,17 +1,16 @@
-use Rattle.std.proofs.Common.{◌≡◌, ◌∙◌, ◌≤◌, ◌<◌, ◌+◌, ◌⊎◌, ◌++◌, refl, sym, ap, subst, rules, arith, ℕ, List, [], map, length, true}
-use Rattle.std.specs.Prelude.{Ok, Err, Result, OnOk, OnErr}
+use Rattle.std.proofs.Common.{◌≡◌, ◌∙◌, ◌≤◌, ◌<◌, ◌+◌, ◌⊎◌, ◌++◌, sym, ap, subst, rules, ℕ, List, [], length, true}
+use Rattle.std.specs.Prelude.{Ok, Err, Result, OnOk}
 use Rattle.room_disk.specs.Model.{WithinWhole}
 use Rattle.room_host.specs.Rests.{Each}
-use Rattle.room_links.specs.Outs.{written}
 use Rattle.room_links.specs.declared.outs.Out.{Out}
-use Rattle.room_log.specs.Log.{State, Entry, updates_of}
-use Rattle.room_model.specs.Server.{Outbound, Server}
+use Rattle.room_log.specs.Log.{State, updates_of}
+use Rattle.room_model.specs.Server.{Server}
 use Rattle.room_replay.specs.Files.{StandsFor}
 use Rattle.room_server.specs.Hosted.{server_in}
-use Rattle.room_serving.specs.Serving.{Ending, group_of}
+use Rattle.room_serving.specs.Serving.{group_of}
 use Rattle.room_serving.specs.Turns.{turned, is_round}
 use Rattle.room_turns.specs.Gathering.{events_of}
-use Rattle.room_turns.specs.Holding.{IsCompacted, IsLast, after_turns}
+use Rattle.room_turns.specs.Holding.{IsCompacted}
 use Rattle.room_turns.specs.Parts.{trying, Stops}
 use Rattle.room_turns.specs.Turning.{CommitsTurn, Settles, Turns, compact_calls}
 use Rattle.room_turns.specs.declared.fault.ServeFault.{ServeFault}
