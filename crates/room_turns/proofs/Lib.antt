@@ -1,0 +1,14 @@
+mod Happening
+mod Gathered
+mod Tried
+mod Noting
+mod Turned
+mod Causes
+mod Standing
+mod Whole
+mod Compacted
+mod Calls
+mod Settled
+mod Done
+mod Running
+mod Opening
