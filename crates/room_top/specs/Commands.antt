@@ -36,6 +36,20 @@ abbrev pub Reads : Option Told → Type 0
 Reads None = ⊥
 Reads (Some t) = DoesRead t
 
+-- whether it shows a folder's room
+abbrev pub DoesShow : Told → Type 0
+DoesShow (Replay folder) = ⊥
+DoesShow (Serve folder rooms address turns guarded) = ⊥
+DoesShow (Client address room) = ⊥
+DoesShow (Show folder) = Unit {0}
+DoesShow (Gen number count) = ⊥
+DoesShow (Patch folder) = ⊥
+DoesShow (Rooms file deed) = ⊥
+
+abbrev pub Shows : Option Told → Type 0
+Shows None = ⊥
+Shows (Some t) = DoesShow t
+
 -- what is known of the input: it is what was left of the source, for a command that reads it
 abbrev pub IsInput : Told → (left : Option (List ℕ)) → List ℕ → Type 0
 IsInput t left input = DoesRead t → left ≡ Some input

@@ -1,5 +1,5 @@
 //! The room of a disk's files is recovered and shown.
-ghost use Rattle.std.specs.Prelude.{◌≡◌, ◌⊎◌, ℕ, [], take, true, IfOk, IfErr};
+ghost use Rattle.std.specs.Prelude.{◌≡◌, ◌⊎◌, ℕ, [], take, true, IfOk, IfErr, OnOk};
 ghost use Rattle.std.specs.Io.KnownBytes.{Appends};
 ghost use Rattle.room_disk.specs.Model.{WithinWhole};
 ghost use Rattle.room_edge.specs.Causes.{Rose};
@@ -7,7 +7,7 @@ ghost use Rattle.room_host.specs.Seen.{room_files};
 ghost use Rattle.room_log.specs.Log.{State};
 ghost use Rattle.room_replay.specs.Files.{Stands, StandsFor};
 ghost use Rattle.room_server.specs.Commit.{HoldsNow};
-ghost use Rattle.room_store.specs.Consistent.{BeforeOr};
+ghost use Rattle.room_store.specs.Consistent.{AreWritten, BeforeOr};
 ghost use Rattle.room_store.specs.Faults.{IsFault, HasDiskCause};
 ghost use Rattle.room_top.specs.Commands.{Runs};
 ghost use Rattle.room_top.specs.Ending.{Ends};
@@ -31,6 +31,7 @@ fn recover<T: Tree, D: Disk>(alloc: Global, disk: &mut D) -> Result<Server<T>, S
     ensures any_moment { D.tells ≡ true → (s : State) → Stands s (room_files (D.seen disk.old))
         → WithinWhole D.moment D.images disk.old disk.new
         (BeforeOr (D.images disk.old (D.moment disk.old)) (StandsFor 0 s)) }
+    ensures written { D.tells ≡ true → OnOk result (AreWritten 0 (D.seen disk.new)) }
     ensures fault { D.tells ≡ true → IfErr result (λ e. (e ≡ StoreFault.Disk)
         ⊎ IsFault (room_files (D.seen disk.old)) e) }
     ensures cause { HasDiskCause D.faults D.inner_faults D.stopped disk.old disk.new result }
@@ -72,6 +73,7 @@ pub(crate) fn show<T: Tree, K: Sink, D: Disk>(alloc: Global, sink: &mut K, disk:
     ensures recovers { D.tells ≡ true → (s : State) → Stands s (room_files (D.seen disk.old))
         → Recovers (D.images disk.new) (D.seen disk.new) s [] (Rose (D.faults disk.old) (D.faults disk.new))
         (D.moment disk.old) (D.moment disk.new) result }
+    ensures made { D.tells ≡ true → result ≡ 0 → AreWritten 0 (D.seen disk.new) }
     ensures sink_fault { result ≡ 4 → Rose (K.faults sink.old) (K.faults sink.new) }
     ensures disk_fault { result ≡ 5 → Rose (D.faults disk.old) (D.faults disk.new) }
 {

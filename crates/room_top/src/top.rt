@@ -5,7 +5,8 @@ ghost use Rattle.room_edge.specs.Causes.{Rose};
 ghost use Rattle.room_host.specs.Seen.{room_files};
 ghost use Rattle.room_log.specs.Log.{State};
 ghost use Rattle.room_replay.specs.Files.{Files, Stands};
-ghost use Rattle.room_top.specs.Commands.{command_in, Reads};
+ghost use Rattle.room_store.specs.Consistent.{AreWritten};
+ghost use Rattle.room_top.specs.Commands.{command_in, Reads, Shows};
 ghost use Rattle.room_top.specs.Ending.{EndsAs, IsComplete, IsOutcome};
 ghost use Rattle.room_top.specs.Outcome.{is_status, read_fault, usage, TakesAtMost};
 ghost use Rattle.room_top.specs.Recovery.{HeadlineAs, RecoversAs};
@@ -63,6 +64,8 @@ pub fn run<T: Tree, S: Source, K: Sink, D: Disk>(
     ensures refused { (result ≡ 6) ⊎ (result ≡ 11) → (fs : Files)
         → IsOutcome (command_in words.now) fs (S.left source.old) (K.written sink.old) (K.written sink.new) result }
     ensures untouched { (result ≡ 2) ⊎ (result ≡ 3) ⊎ (result ≡ 6) ⊎ (result ≡ 11) → disk.new ≡ disk.old }
+    // A room that was shown is in the files then, in the format that is written: a new one is made.
+    ensures made { D.tells ≡ true → Shows (command_in words.now) → result ≡ 0 → AreWritten 0 (D.seen disk.new.inner) }
     // The input is read to its end before anything is run, or one byte more than may be; where none is read, it stays.
     ensures end { (result ≡ 0) ⊎ (result ≡ 5) ⊎ (result ≡ 6) ⊎ (result ≡ 7) → Reads (command_in words.now)
         → IsAtEnd (S.left source.new) }

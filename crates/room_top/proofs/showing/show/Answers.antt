@@ -43,6 +43,7 @@ returns-in-Err g c =
       ends = λ told. ends_short _ _ _ _ _ _ 1 (inl refl) (0, Appends-nil _);
       recovers = λ told s stands. recovers_none (d.images now) (d.seen now) s [] _ _ _ 1 (λ z. refl)
           (opens_within _ _ _ (d.images now) s (c.in-Err.ensures.any_moment told s stands)) (λ a b. absurd (a refl));
+      made = λ told zero. absurd (omega (arith, zero));
       sink_fault = λ e. omega (arith, e);
       disk_fault = λ e. omega (arith, e);
     }
