@@ -114,3 +114,5 @@ byId("front").onclick = onChosen(() => client.move(shapes(), index(), client.sho
 byId("delete").onclick = onChosen(() => client.take(shapes(), index()));
 byId("undo").onclick = () => client.isLoaded && client.undo();
 byId("redo").onclick = () => client.isLoaded && client.redo();
+
+globalThis.whiteboard = { client, shapes }; // for the browser's console, and for try.py
